@@ -1,0 +1,5 @@
+mod Somes
+mod Steps
+mod Tails
+mod Walk
+mod Loads

@@ -1,0 +1,3 @@
+pub mod Progress
+pub mod Faults
+pub mod Loading
