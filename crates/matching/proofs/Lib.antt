@@ -1,0 +1,7 @@
+mod Bits
+mod Bodies
+mod Deciding
+mod Everies
+pub mod Laws
+mod Meetings
+mod Positions
