@@ -1,0 +1,16 @@
+pub mod Nths
+pub mod Widths
+pub mod Indices
+pub mod Members
+pub mod Counting
+pub mod Readings
+pub mod Holding
+pub mod Guards
+pub mod Invariant
+pub mod Keeping
+pub mod Replaying
+pub mod Theory
+pub mod Outcomes
+pub mod Totality
+pub mod Building
+pub mod Examples
