@@ -1,5 +1,5 @@
 -- What follows of two read facts from one meaning: the arguments in front of the count are equal.
-use Rattle.std.proofs.Common.{◌≡◌, ℕ, zero, suc, ◌<◌, List, [], ◌∷◌, get_or, take, ℤ, ap, arith}
+use Rattle.std.proofs.Common.{◌≡◌, ℕ, zero, suc, ◌<◌, ◌≤◌, List, [], ◌∷◌, get_or, take, ℤ, refl, ap, arith}
 use Rattle.std.proofs.lemmas.List.{get_or-take}
 use Rattle.facts.specs.declared.fact.ReadFact.{ReadFact}
 use Rattle.facts.specs.Meanings.{Meaning, read_meaning}
@@ -17,3 +17,19 @@ same_at a b k d e l =
     let x = get_or-take a.count (listed a) k d l in
     let y = get_or-take b.count (listed b) k d r in
     cc
+
+-- the first n of three numbers each are the same where each of them is
+pub first_of_three : (n : ℕ) (a b c x y z : ℤ) → n ≤ 3 → (0 < n → a ≡ x) → (1 < n → b ≡ y) → (2 < n → c ≡ z) → take n (a ∷ (b ∷ (c ∷ []))) ≡ take n (x ∷ (y ∷ (z ∷ [])))
+first_of_three zero a b c x y z h p q r = refl
+first_of_three (suc zero) a b c x y z h p q r =
+    let e : a ≡ x = p (omega arith) in cc
+first_of_three (suc (suc zero)) a b c x y z h p q r =
+    let e : a ≡ x = p (omega arith) in
+    let f : b ≡ y = q (omega arith) in
+    cc
+first_of_three (suc (suc (suc zero))) a b c x y z h p q r =
+    let e : a ≡ x = p (omega arith) in
+    let f : b ≡ y = q (omega arith) in
+    let g : c ≡ z = r (omega arith) in
+    cc
+first_of_three (suc (suc (suc (suc n)))) a b c x y z h p q r = absurd (omega arith)

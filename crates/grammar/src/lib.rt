@@ -1,3 +1,5 @@
+#![tactic(auto)]
+
 pub mod part;
 pub mod reason;
 pub mod rule;

@@ -1,3 +1,5 @@
+#![tactic(auto)]
+
 ghost use Rattle.std.specs.Prelude.{ℕ, IfOk};
 ghost use Rattle.words.specs.Words.{tag};
 ghost use Rattle.hints.specs.Follows.{Follows, Shown};

@@ -1,3 +1,5 @@
+#![tactic(auto)]
+
 ghost use Rattle.std.specs.Prelude.{◌≡◌, ℕ, ◌/◌, min, length, IfOk};
 ghost use Rattle.input.specs.Bytes.{words_in};
 

@@ -1,5 +1,7 @@
 // What is proved of the lane machine, over every run and for every type of facts and of rules. The functions do nothing:
 // each contract is a theorem, stated in specs/Law.antt, and the crate is proved only if it holds.
+#![tactic(auto)]
+
 ghost use Rattle.std.specs.Prelude.{ℕ};
 ghost use Rattle.facts.specs.Meanings.{Meaning};
 ghost use Rattle.laws.specs.Rules.{WellFormed};

@@ -1,3 +1,5 @@
+#![tactic(auto)]
+
 mod faults;
 pub mod report;
 mod text;

@@ -1,3 +1,5 @@
+#![tactic(auto)]
+
 pub mod first;
 pub mod last;
 pub mod list;

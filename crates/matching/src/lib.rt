@@ -1,3 +1,5 @@
+#![tactic(auto)]
+
 mod body;
 mod heads;
 mod rule;

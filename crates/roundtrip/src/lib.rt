@@ -1,3 +1,5 @@
+#![tactic(auto)]
+
 ghost use Rattle.std.specs.Prelude.{◌≡◌, ℕ, ◌≤◌, List, ◌++◌, length, take, drop, IfOk, MatchResult};
 ghost use Rattle.grammar.specs.Parts.{Parts};
 ghost use Rattle.grammar.specs.Validity.{Valid};

@@ -1,4 +1,6 @@
 // Tests of words and of the loader.
+#![tactic(auto)]
+
 #[cfg(test)]
 mod amounts;
 #[cfg(test)]

@@ -1,3 +1,5 @@
+#![tactic(auto)]
+
 pub mod cell;
 mod content;
 pub mod flat;

@@ -1,3 +1,5 @@
+#![tactic(auto)]
+
 use listing::report_on;
 use std::io;
 use std::io::Read;

@@ -1,4 +1,6 @@
 // Loaded rule tables, of any value kind's ends, under the law over runs: each contract is a theorem.
+#![tactic(auto)]
+
 ghost use Rattle.std.specs.Prelude.{[], ◌∷◌};
 ghost use Rattle.grammar.specs.Validity.{Valid};
 ghost use Rattle.tables.specs.Loaded.{TablesServe, TablesObey};

@@ -9,15 +9,15 @@ use Rattle.roundtrip.proofs.load_then_write.Goals as goal
 front : (ws vs us : List ℕ) (n : ℕ) → ws ≡ vs ++ us → n ≡ length vs → take n ws ≡ vs
 front ws vs us n e f = ap (λ (m : ℕ). take m ws) f ∙ ap (take (length vs)) e ∙ take-append_seam vs us
 
-pub returns-in-Ok-write-table : goal.returns-in-Ok-write-table
-returns-in-Ok-write-table c =
+pub returns-in-Ok-write_table : goal.returns-in-Ok-write_table
+returns-in-Ok-write_table c =
     let l = c.in-Ok.ensures.loads in
-    let w = c.in-Ok-write-table.ensures in
+    let w = c.in-Ok-write_table.ensures in
     let vs : List ℕ = written (rules_of c.in-Ok.loaded.table) in
     record {
       whole = λ rs us v e. w.0 ∙ ap (λ (qs : List Parts). length (written qs)) (c.in-Ok.ensures.accepts rs us v e).0;
       same = (
         omega (arith, w.0, ap length l.2.1, length-append vs l.2.0),
-        w.1 ∙ ap (λ (v : List ℕ). v ++ drop c.in-Ok-write-table.count c.args.memory.now) (sym (front c.args.words.now vs l.2.0 c.in-Ok-write-table.count l.2.1 w.0)),
+        w.1 ∙ ap (λ (v : List ℕ). v ++ drop c.in-Ok-write_table.count c.args.memory.now) (sym (front c.args.words.now vs l.2.0 c.in-Ok-write_table.count l.2.1 w.0)),
       );
     }

@@ -33,4 +33,4 @@ returns-in-Err-load c =
     let rs : List Parts = rules_of c.args.table.now in
     let w = c.in-Ok.ensures in
     let a = c.in-Err-load.ensures.accepts rs (drop c.in-Ok.field-0 c.args.memory.now) in
-    subst NotRefused (sym c.back-error.ensures) (taken rs c.in-Err-load.error (∥∥₁_map c.args.table.now.valid (λ x. a x w.1)))
+    subst NotRefused (sym c.back_error.ensures) (taken rs c.in-Err-load.error (∥∥₁_map c.args.table.now.valid (λ x. a x w.1)))

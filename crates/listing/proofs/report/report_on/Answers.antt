@@ -8,13 +8,13 @@ use Rattle.listing.proofs.report.report_on.Goals as goal
 
 pub returns : goal.returns
 returns c =
-    let first : List ℕ = string_bytes c.in-ok-first.first in
-    let rest : List ℕ = string_bytes c.in-ok-rest.rest in
+    let first : List ℕ = string_bytes c.in_ok-first.first in
+    let rest : List ℕ = string_bytes c.in_ok-rest.rest in
     let f : IfOk c.format.result (λ s. string_bytes s ≡ first ++ (codes "\n" ++ rest)) = search rules in
     let n : min (length c.args.bytes.now / 4) 18446744073709551615 ≡ length c.args.bytes.now / 4 = omega arith in
-    let w : c.as-slice.result.now ≡ words_in c.args.bytes.now (length c.args.bytes.now / 4)
-    = c.as-slice.ensures.value ∙ c.in-ok-words.ensures ∙ ap (words_in c.args.bytes.now) n in
-    let e : first ≡ load_line _ = c.in-ok-first.ensures ∙ ap load_line c.answer_of.ensures in
+    let w : c.as_slice.result.now ≡ words_in c.args.bytes.now (length c.args.bytes.now / 4)
+    = c.as_slice.ensures.value ∙ c.in_ok-words.ensures ∙ ap (words_in c.args.bytes.now) n in
+    let e : first ≡ load_line _ = c.in_ok-first.ensures ∙ ap load_line c.answer_of.ensures in
     IfOk-weaker c.format.result (λ s. string_bytes s ≡ first ++ (codes "\n" ++ rest))
     (λ s. Reports c.args.bytes.now (string_bytes s))
     (λ s g. (

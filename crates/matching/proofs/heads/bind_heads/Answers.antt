@@ -11,13 +11,13 @@ returns-then-heads-facts c =
       bound = λ e. absurd (false≢true e);
     }
 
-pub returns-then-not-head-fits : goal.returns-then-not-head-fits
-returns-then-not-head-fits c =
+pub returns-then-not-head_fits : goal.returns-then-not-head_fits
+returns-then-not-head_fits c =
     let inside' : c.loop-i.i < length c.args.facts.now = omega arith in
     let next = fit_next c.args.heads.now c.args.facts.now c.loop-i.i c.loop-i-test.true inside' in
     let rest = fit_from c.args.heads.now c.args.facts.now (c.loop-i.i + 1) in
     record {
-      fit = ap (λ (b : Bool). b && rest) c.if-not-head-fits.ensures ∙ sym (c.loop-i.invariant.0 ∙ next);
+      fit = ap (λ (b : Bool). b && rest) c.if-not-head_fits.ensures ∙ sym (c.loop-i.invariant.0 ∙ next);
       bound = λ e. absurd (false≢true e);
     }
 
@@ -25,11 +25,11 @@ pub loop-i-preserved : goal.loop-i-preserved
 loop-i-preserved c =
     let inside' : c.loop-i.i < length c.args.facts.now = omega arith in
     let next = fit_next c.args.heads.now c.args.facts.now c.loop-i.i c.loop-i-test.true inside' in
-    let fit = sym c.if-not-head-fits.ensures in
+    let fit = sym c.if-not-head_fits.ensures in
     let rest = fit_from c.args.heads.now c.args.facts.now (c.loop-i.i + 1) in
     let ahead = met_from c.args.heads.now c.args.facts.now (c.loop-i.i + 1) in (
       c.loop-i.invariant.0 ∙ next ∙ ap (λ (b : Bool). b && rest) fit,
-      c.loop-i.invariant.1 ∙ bind_all_next c.args.heads.now c.args.facts.now c.loop-i.i c.loop-i-test.true inside' c.loop-i.values fit ∙ ap (λ (ns : List ℤ). bind_all ns ahead) (sym c.bind-head.ensures),
+      c.loop-i.invariant.1 ∙ bind_all_next c.args.heads.now c.args.facts.now c.loop-i.i c.loop-i-test.true inside' c.loop-i.values fit ∙ ap (λ (ns : List ℤ). bind_all ns ahead) (sym c.bind_head.ensures),
     )
 
 pub returns : goal.returns

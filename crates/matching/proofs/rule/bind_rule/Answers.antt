@@ -15,26 +15,26 @@ returns-then-facts-kept c =
       bound = λ e. absurd (false≢true e);
     }
 
-pub returns-then-bind-heads : goal.returns-then-bind-heads
-returns-then-bind-heads c =
+pub returns-then-bind_heads : goal.returns-then-bind_heads
+returns-then-bind_heads c =
     let s =
-    split (vec_items c.args.rule.now.kept) (vec_items c.args.rule.now.taken) c.args.facts.now c.len-kept.result (c.len-kept.ensures ∙ c.args.rule.now.kept.ok.0) c.as-slice.ensures.value c.as-slice-then-bind-heads.ensures.value c.split-at.ensures.front c.split-at.ensures.back
+    split (vec_items c.args.rule.now.kept) (vec_items c.args.rule.now.taken) c.args.facts.now c.len-kept.result (c.len-kept.ensures ∙ c.args.rule.now.kept.ok.0) c.as_slice.ensures.value c.as_slice-then-bind_heads.ensures.value c.split_at.ensures.front c.split_at.ensures.back
     in
-    let back = map read_meaning c.split-at.result.1.now in
-    let taken = c.as-slice-then-bind-heads.result.now in
+    let back = map read_meaning c.split_at.result.1.now in
+    let taken = c.as_slice-then-bind_heads.result.now in
     record {
-      fit = c.bind-heads-then-bind-heads.ensures.fit ∙ ap (λ (b : Bool). b && all_fit taken back) c.if-bind-heads.ensures.fit ∙ sym (fit_parts s);
-      bound = λ e. c.bind-heads-then-bind-heads.ensures.bound e ∙ ap (λ (ns : List ℤ). bind_all ns (met taken back)) (c.if-bind-heads.ensures.bound refl) ∙ sym (bind_all_parts s c.args.values.now);
+      fit = c.bind_heads-then-bind_heads.ensures.fit ∙ ap (λ (b : Bool). b && all_fit taken back) c.if-bind_heads.ensures.fit ∙ sym (fit_parts s);
+      bound = λ e. c.bind_heads-then-bind_heads.ensures.bound e ∙ ap (λ (ns : List ℤ). bind_all ns (met taken back)) (c.if-bind_heads.ensures.bound refl) ∙ sym (bind_all_parts s c.args.values.now);
     }
 
-pub returns-else-bind-heads : goal.returns-else-bind-heads
-returns-else-bind-heads c =
+pub returns-else-bind_heads : goal.returns-else-bind_heads
+returns-else-bind_heads c =
     let taken = vec_items c.args.rule.now.taken in
     let s =
-    split (vec_items c.args.rule.now.kept) taken c.args.facts.now c.len-kept.result (c.len-kept.ensures ∙ c.args.rule.now.kept.ok.0) c.as-slice.ensures.value refl c.split-at.ensures.front c.split-at.ensures.back
+    split (vec_items c.args.rule.now.kept) taken c.args.facts.now c.len-kept.result (c.len-kept.ensures ∙ c.args.rule.now.kept.ok.0) c.as_slice.ensures.value refl c.split_at.ensures.front c.split_at.ensures.back
     in
-    let back = map read_meaning c.split-at.result.1.now in
+    let back = map read_meaning c.split_at.result.1.now in
     record {
-      fit = c.if-bind-heads.false ∙ ap (λ (b : Bool). b && all_fit taken back) c.if-bind-heads.ensures.fit ∙ sym (fit_parts s);
-      bound = λ e. absurd (false≢true (sym c.if-bind-heads.false ∙ e));
+      fit = c.if-bind_heads.false ∙ ap (λ (b : Bool). b && all_fit taken back) c.if-bind_heads.ensures.fit ∙ sym (fit_parts s);
+      bound = λ e. absurd (false≢true (sym c.if-bind_heads.false ∙ e));
     }

@@ -14,7 +14,7 @@ returns-then-position-kept c =
     omega (arith, c.len-kept.ensures, c.args.rule.now.kept.ok.0)
     in
     let is =
-    c.head-fits.ensures ∙ ap (λ (h : Head). fits_head h (read_meaning c.args.fact.now)) c.index.ensures ∙ sym (fits_kept (vec_items c.args.rule.now.kept) (vec_items c.args.rule.now.taken) c.args.position c.index.result.now (read_meaning c.args.fact.now) inside)
+    c.head_fits.ensures ∙ ap (λ (h : Head). fits_head h (read_meaning c.args.fact.now)) c.index.ensures ∙ sym (fits_kept (vec_items c.args.rule.now.kept) (vec_items c.args.rule.now.taken) c.args.position c.index.result.now (read_meaning c.args.fact.now) inside)
     in
     record { answer = is; spare = λ other e. is ∙ ap (fits (parts c.args.rule.now) c.args.position) (sym e) }
 
@@ -27,7 +27,7 @@ returns-then-later-len c =
     omega (arith, c.len.ensures, c.args.rule.now.taken.ok.0)
     in
     let is =
-    c.head-fits-then-later-len.ensures ∙ ap (λ (h : Head). fits_head h (read_meaning c.args.fact.now)) c.index-then-later-len.ensures ∙ sym (fits_taken (vec_items c.args.rule.now.kept) (vec_items c.args.rule.now.taken) c.args.position (c.args.position - c.len-kept.result) c.index-then-later-len.result.now (read_meaning c.args.fact.now) later inside)
+    c.head_fits-then-later-len.ensures ∙ ap (λ (h : Head). fits_head h (read_meaning c.args.fact.now)) c.index-then-later-len.ensures ∙ sym (fits_taken (vec_items c.args.rule.now.kept) (vec_items c.args.rule.now.taken) c.args.position (c.args.position - c.len-kept.result) c.index-then-later-len.result.now (read_meaning c.args.fact.now) later inside)
     in
     record { answer = is; spare = λ other e. is ∙ ap (fits (parts c.args.rule.now) c.args.position) (sym e) }
 

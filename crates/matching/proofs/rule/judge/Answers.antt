@@ -12,8 +12,8 @@ pub returns : goal.returns
 returns c =
     let rule = parts c.args.rule.now in
     let facts = map read_meaning c.args.facts.now in
-    let is : c.verdict-on.result ≡ verdict c.args.low c.args.high rule facts =
-    c.verdict-on.ensures ∙ as_bits c.args.low c.args.high c.ranges.low c.ranges.high (λ l h. verdict l h rule facts)
+    let is : c.verdict_on.result ≡ verdict c.args.low c.args.high rule facts =
+    c.verdict_on.ensures ∙ as_bits c.args.low c.args.high c.ranges.low c.ranges.high (λ l h. verdict l h rule facts)
     in
     record {
       judged = is;

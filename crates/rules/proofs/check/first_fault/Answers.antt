@@ -11,50 +11,50 @@ use Rattle.rules.proofs.Tails.{fault_within}
 use Rattle.rules.proofs.Walk.{rule_nth, at_more, sound_more, rising_more, last_more, rule_within, rule_slice}
 use Rattle.rules.proofs.check.first_fault.Goals as goal
 
-pub rule-size-size-requires : goal.rule-size-size-requires
-rule-size-size-requires c =
+pub rule_size-size-requires : goal.rule_size-size-requires
+rule_size-size-requires c =
     let n : Nth (map parts (vec_items c.args.rules.now)) c.loop-rule.rule-index (parts c.rule-item.result)
     = rule_nth (vec_items c.args.rules.now) c.deref-rule-items.result.now c.loop-rule.rule-index c.rule-item.result c.deref-rule-items.ensures.value c.loop-rule-test.true c.rule-item.is in
     all_nth (FormedRule standard) (map parts (vec_items c.args.rules.now)) c.loop-rule.rule-index (parts c.rule-item.result) c.requires.0.each n
 
-pub overflow-add-at : goal.overflow-add-at
-overflow-add-at c =
+pub overflow_add-at : goal.overflow_add-at
+overflow_add-at c =
     let n : Nth (map parts (vec_items c.args.rules.now)) c.loop-rule.rule-index (parts c.rule-item.result)
     = rule_nth (vec_items c.args.rules.now) c.deref-rule-items.result.now c.loop-rule.rule-index c.rule-item.result c.deref-rule-items.ensures.value c.loop-rule-test.true c.rule-item.is in
-    let h : c.loop-rule.at + c.rule-size-size.result ≤ length c.args.ws.now
-    = rule_within (map parts (vec_items c.args.rules.now)) c.loop-rule.rule-index (parts c.rule-item.result) n c.requires.1.0 c.args.ws.now c.requires.1.1 c.loop-rule.at c.rule-size-size.result c.loop-rule.invariant.0 c.rule-size-size.ensures.value in
+    let h : c.loop-rule.at + c.rule_size-size.result ≤ length c.args.ws.now
+    = rule_within (map parts (vec_items c.args.rules.now)) c.loop-rule.rule-index (parts c.rule-item.result) n c.requires.1.0 c.args.ws.now c.requires.1.1 c.loop-rule.at c.rule_size-size.result c.loop-rule.invariant.0 c.rule_size-size.ensures.value in
     omega arith
 
-pub offset-bounds-ws-at : goal.offset-bounds-ws-at
-offset-bounds-ws-at c =
+pub offset_bounds-ws-at : goal.offset_bounds-ws-at
+offset_bounds-ws-at c =
     let n : Nth (map parts (vec_items c.args.rules.now)) c.loop-rule.rule-index (parts c.rule-item.result)
     = rule_nth (vec_items c.args.rules.now) c.deref-rule-items.result.now c.loop-rule.rule-index c.rule-item.result c.deref-rule-items.ensures.value c.loop-rule-test.true c.rule-item.is in
-    let h : c.loop-rule.at + c.rule-size-size.result ≤ length c.args.ws.now
-    = rule_within (map parts (vec_items c.args.rules.now)) c.loop-rule.rule-index (parts c.rule-item.result) n c.requires.1.0 c.args.ws.now c.requires.1.1 c.loop-rule.at c.rule-size-size.result c.loop-rule.invariant.0 c.rule-size-size.ensures.value in
+    let h : c.loop-rule.at + c.rule_size-size.result ≤ length c.args.ws.now
+    = rule_within (map parts (vec_items c.args.rules.now)) c.loop-rule.rule-index (parts c.rule-item.result) n c.requires.1.0 c.args.ws.now c.requires.1.1 c.loop-rule.at c.rule_size-size.result c.loop-rule.invariant.0 c.rule_size-size.ensures.value in
     omega arith
 
-pub slice-bounds-rule-fault-end : goal.slice-bounds-rule-fault-end
-slice-bounds-rule-fault-end c =
+pub slice_bounds-rule_fault-end : goal.slice_bounds-rule_fault-end
+slice_bounds-rule_fault-end c =
     let n : Nth (map parts (vec_items c.args.rules.now)) c.loop-rule.rule-index (parts c.rule-item.result)
     = rule_nth (vec_items c.args.rules.now) c.deref-rule-items.result.now c.loop-rule.rule-index c.rule-item.result c.deref-rule-items.ensures.value c.loop-rule-test.true c.rule-item.is in
-    let h : c.loop-rule.at + c.rule-size-size.result ≤ length c.args.ws.now
-    = rule_within (map parts (vec_items c.args.rules.now)) c.loop-rule.rule-index (parts c.rule-item.result) n c.requires.1.0 c.args.ws.now c.requires.1.1 c.loop-rule.at c.rule-size-size.result c.loop-rule.invariant.0 c.rule-size-size.ensures.value in
+    let h : c.loop-rule.at + c.rule_size-size.result ≤ length c.args.ws.now
+    = rule_within (map parts (vec_items c.args.rules.now)) c.loop-rule.rule-index (parts c.rule-item.result) n c.requires.1.0 c.args.ws.now c.requires.1.1 c.loop-rule.at c.rule_size-size.result c.loop-rule.invariant.0 c.rule_size-size.ensures.value in
     omega arith
 
-pub rule-fault-requires : goal.rule-fault-requires
-rule-fault-requires c =
+pub rule_fault-requires : goal.rule_fault-requires
+rule_fault-requires c =
     let n : Nth (map parts (vec_items c.args.rules.now)) c.loop-rule.rule-index (parts c.rule-item.result)
     = rule_nth (vec_items c.args.rules.now) c.deref-rule-items.result.now c.loop-rule.rule-index c.rule-item.result c.deref-rule-items.ensures.value c.loop-rule-test.true c.rule-item.is in
-    (all_nth (FormedRule standard) (map parts (vec_items c.args.rules.now)) c.loop-rule.rule-index (parts c.rule-item.result) c.requires.0.each n, rule_slice (map parts (vec_items c.args.rules.now)) c.loop-rule.rule-index (parts c.rule-item.result) n c.requires.1.0 c.args.ws.now c.requires.1.1 c.loop-rule.at c.rule-size-size.result c.loop-rule.invariant.0 c.rule-size-size.ensures.value)
+    (all_nth (FormedRule standard) (map parts (vec_items c.args.rules.now)) c.loop-rule.rule-index (parts c.rule-item.result) c.requires.0.each n, rule_slice (map parts (vec_items c.args.rules.now)) c.loop-rule.rule-index (parts c.rule-item.result) n c.requires.1.0 c.args.ws.now c.requires.1.1 c.loop-rule.at c.rule_size-size.result c.loop-rule.invariant.0 c.rule_size-size.ensures.value)
 
-pub overflow-add-result : goal.overflow-add-result
-overflow-add-result c =
+pub overflow_add-result : goal.overflow_add-result
+overflow_add-result c =
     let n : Nth (map parts (vec_items c.args.rules.now)) c.loop-rule.rule-index (parts c.rule-item.result)
     = rule_nth (vec_items c.args.rules.now) c.deref-rule-items.result.now c.loop-rule.rule-index c.rule-item.result c.deref-rule-items.ensures.value c.loop-rule-test.true c.rule-item.is in
-    let h : c.loop-rule.at + c.rule-size-size.result ≤ length c.args.ws.now
-    = rule_within (map parts (vec_items c.args.rules.now)) c.loop-rule.rule-index (parts c.rule-item.result) n c.requires.1.0 c.args.ws.now c.requires.1.1 c.loop-rule.at c.rule-size-size.result c.loop-rule.invariant.0 c.rule-size-size.ensures.value in
+    let h : c.loop-rule.at + c.rule_size-size.result ≤ length c.args.ws.now
+    = rule_within (map parts (vec_items c.args.rules.now)) c.loop-rule.rule-index (parts c.rule-item.result) n c.requires.1.0 c.args.ws.now c.requires.1.1 c.loop-rule.at c.rule_size-size.result c.loop-rule.invariant.0 c.rule_size-size.ensures.value in
     let f = fault_within (parts c.rule-item.result) c.loop-rule.last c.in-Some.fault c.in-Some.offset c.in-Some.ensures in
-    omega (arith, c.rule-size-size.ensures.value)
+    omega (arith, c.rule_size-size.ensures.value)
 
 pub returns-in-Some : goal.returns-in-Some
 returns-in-Some c =
@@ -71,20 +71,20 @@ returns-in-Some c =
       at = ap (λ (k : ℕ). k + c.in-Some.offset) c.loop-rule.invariant.0;
     }
 
-pub overflow-add-at-in-loop-rule : goal.overflow-add-at-in-loop-rule
-overflow-add-at-in-loop-rule c =
+pub overflow_add-at-in-loop-rule : goal.overflow_add-at-in-loop-rule
+overflow_add-at-in-loop-rule c =
     let n : Nth (map parts (vec_items c.args.rules.now)) c.loop-rule.rule-index (parts c.rule-item.result)
     = rule_nth (vec_items c.args.rules.now) c.deref-rule-items.result.now c.loop-rule.rule-index c.rule-item.result c.deref-rule-items.ensures.value c.loop-rule-test.true c.rule-item.is in
-    let h : c.loop-rule.at + c.rule-size-size.result ≤ length c.args.ws.now
-    = rule_within (map parts (vec_items c.args.rules.now)) c.loop-rule.rule-index (parts c.rule-item.result) n c.requires.1.0 c.args.ws.now c.requires.1.1 c.loop-rule.at c.rule-size-size.result c.loop-rule.invariant.0 c.rule-size-size.ensures.value in
+    let h : c.loop-rule.at + c.rule_size-size.result ≤ length c.args.ws.now
+    = rule_within (map parts (vec_items c.args.rules.now)) c.loop-rule.rule-index (parts c.rule-item.result) n c.requires.1.0 c.args.ws.now c.requires.1.1 c.loop-rule.at c.rule_size-size.result c.loop-rule.invariant.0 c.rule_size-size.ensures.value in
     omega arith
 
 pub loop-rule-preserved : goal.loop-rule-preserved
 loop-rule-preserved c =
     let n : Nth (map parts (vec_items c.args.rules.now)) c.loop-rule.rule-index (parts c.rule-item.result)
     = rule_nth (vec_items c.args.rules.now) c.deref-rule-items.result.now c.loop-rule.rule-index c.rule-item.result c.deref-rule-items.ensures.value c.loop-rule-test.true c.rule-item.is in
-    let s = c.in-default.ensures in (
-      at_more (map parts (vec_items c.args.rules.now)) c.loop-rule.rule-index (parts c.rule-item.result) n c.loop-rule.at c.rule-size-size.result c.loop-rule.invariant.0 c.rule-size-size.ensures.value,
+    let s = c.in_default.ensures in (
+      at_more (map parts (vec_items c.args.rules.now)) c.loop-rule.rule-index (parts c.rule-item.result) n c.loop-rule.at c.rule_size-size.result c.loop-rule.invariant.0 c.rule_size-size.ensures.value,
       last_more (map parts (vec_items c.args.rules.now)) c.loop-rule.rule-index (parts c.rule-item.result) n,
       sound_more (map parts (vec_items c.args.rules.now)) c.loop-rule.rule-index (parts c.rule-item.result) n c.loop-rule.invariant.2 s.0,
       rising_more (map parts (vec_items c.args.rules.now)) c.loop-rule.rule-index (parts c.rule-item.result) n c.loop-rule.invariant.3 (subst (λ (k : ℕ). suc k ≤ c.rule-item.result.label) c.loop-rule.invariant.1 s.1),

@@ -9,7 +9,7 @@ use Rattle.rules.proofs.check.first_free.Goals as goal
 pub loop-i-preserved : goal.loop-i-preserved
 loop-i-preserved c =
     All-more (λ w. free (parts c.args.rule.now) w ≡ false) c.args.ws.now c.loop-i.i 0 c.loop-i-test.true c.loop-i.invariant
-    (sym c.if-is-free.ensures)
+    (sym c.if-is_free.ensures)
 
 pub returns : goal.returns
 returns c =

@@ -15,19 +15,19 @@ returns-in-Err c =
     = refused_at (map parts (vec_items c.new-rules.result)) (read_table standard c.args.words.now) c.in-Err.error
     (ap (map parts) c.new-rules.ensures.items) c.in-Err.ensures.reads in
     record {
-      loads = refused_loads c.args.words.now c.in-Err.error c.load-error.result h c.load-error.ensures;
-      accepts = refused_accepts c.args.words.now c.in-Err.error c.load-error.result h c.load-error.ensures;
+      loads = refused_loads c.args.words.now c.in-Err.error c.load_error.result h c.load_error.ensures;
+      accepts = refused_accepts c.args.words.now c.in-Err.error c.load_error.result h c.load_error.ensures;
     }
 
-pub first-fault-requires : goal.first-fault-requires
-first-fault-requires c =
-    let h : read_table standard c.args.words.now ≡ ok (map parts (vec_items c.read-rules.new.rules)) c.in-Ok.rest.now
+pub first_fault-requires : goal.first_fault-requires
+first_fault-requires c =
+    let h : read_table standard c.args.words.now ≡ ok (map parts (vec_items c.read_rules.new.rules)) c.in-Ok.rest.now
     = front_at _ _ _ (ap (map parts) c.new-rules.ensures.items) c.in-Ok.ensures.reads in
     (table_formed c.args.words.now _ _ h, (c.in-Ok.rest.now, table_words c.args.words.now _ _ h))
 
 pub returns-in-Some : goal.returns-in-Some
 returns-in-Some c =
-    let h : read_table standard c.args.words.now ≡ ok (map parts (vec_items c.read-rules.new.rules)) c.in-Ok.rest.now
+    let h : read_table standard c.args.words.now ≡ ok (map parts (vec_items c.read_rules.new.rules)) c.in-Ok.rest.now
     = front_at _ _ _ (ap (map parts) c.new-rules.ensures.items) c.in-Ok.ensures.reads in
     let e = c.refusal.ensures in
     record {
@@ -40,24 +40,24 @@ returns-in-Some c =
       accepts = fault_accepts c.args.words.now _ _ h c.in-Some.fault c.in-Some.place c.in-Some.ensures;
     }
 
-pub overflow-sub-result : goal.overflow-sub-result
-overflow-sub-result c =
-    let h : read_table standard c.args.words.now ≡ ok (map parts (vec_items c.read-rules.new.rules)) c.in-Ok.rest.now
+pub overflow_sub-result : goal.overflow_sub-result
+overflow_sub-result c =
+    let h : read_table standard c.args.words.now ≡ ok (map parts (vec_items c.read_rules.new.rules)) c.in-Ok.rest.now
     = front_at _ _ _ (ap (map parts) c.new-rules.ensures.items) c.in-Ok.ensures.reads in
     table_left c.args.words.now _ _ h
 
-pub invariant-of-result : goal.invariant-of-result
-invariant-of-result c =
-    let h : read_table standard c.args.words.now ≡ ok (map parts (vec_items c.read-rules.new.rules)) c.in-Ok.rest.now
+pub invariant_of-result : goal.invariant_of-result
+invariant_of-result c =
+    let h : read_table standard c.args.words.now ≡ ok (map parts (vec_items c.read_rules.new.rules)) c.in-Ok.rest.now
     = front_at _ _ _ (ap (map parts) c.new-rules.ensures.items) c.in-Ok.ensures.reads in
-    let s = c.in-default.ensures in
+    let s = c.in_default.ensures in
     (∣ record { formed = table_formed c.args.words.now _ _ h; sound = s.0; rising = s.1 } ∣₁, tt)
 
 pub returns : goal.returns
 returns c =
-    let h : read_table standard c.args.words.now ≡ ok (map parts (vec_items c.read-rules.new.rules)) c.in-Ok.rest.now
+    let h : read_table standard c.args.words.now ≡ ok (map parts (vec_items c.read_rules.new.rules)) c.in-Ok.rest.now
     = front_at _ _ _ (ap (map parts) c.new-rules.ensures.items) c.in-Ok.ensures.reads in
-    let s = c.in-default.ensures in
+    let s = c.in_default.ensures in
     let u = table_used c.args.words.now _ _ h in
     record {
       loads = (

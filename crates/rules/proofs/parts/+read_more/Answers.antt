@@ -29,13 +29,13 @@ returns g t c =
     let r : 0 < c.args.room = omega arith in
     let more
     : front (vec_items c.args.parts.now) (read_parts read k c.args.room c.args.ws.now)
-    ≡ front (vec_items c.push.new.self) (read_parts read k (c.args.room - 1) c.in-ok-part.next.now)
+    ≡ front (vec_items c.push.new.self) (read_parts read k (c.args.room - 1) c.in_ok-part.next.now)
     = parts_more read k c.args.room (vec_items c.args.parts.now) c.args.ws.now w c.in-Some.after.now c.in-Some.ensures
-    e d r c.in-ok-part.part c.in-ok-part.next.now (subst (λ (n : ℕ). read n c.in-Some.after.now ≡ ok c.in-ok-part.part c.in-ok-part.next.now) j c.in-ok-part.ensures)
-    ∙ ap (λ xs. front xs (read_parts read k (c.args.room - 1) c.in-ok-part.next.now)) (sym c.in-ok-push.ensures.items) in
+    e d r c.in_ok-part.part c.in_ok-part.next.now (subst (λ (n : ℕ). read n c.in-Some.after.now ≡ ok c.in_ok-part.part c.in_ok-part.next.now) j c.in_ok-part.ensures)
+    ∙ ap (λ xs. front xs (read_parts read k (c.args.room - 1) c.in_ok-part.next.now)) (sym c.in_ok-push.ensures.items) in
     record {
       reads =
-          MatchResult-weaker c.read-more.result c.read-more.ensures.reads
+          MatchResult-weaker c.read_more.result c.read_more.ensures.reads
           (λ x f. more ∙ f)
           (λ y f. subst (λ p. Refused p y) (sym more) f);
       few = search rules;

@@ -1,4 +1,4 @@
 use Rattle.rules.proofs.parts.+read_more.Given as goal
 
-abbrev pub decreases-read-more : goal.decreases-read-more
-decreases-read-more g l = l.room
+abbrev pub decreases-read_more : goal.decreases-read_more
+decreases-read_more g l = l.room

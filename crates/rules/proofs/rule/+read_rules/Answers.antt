@@ -9,31 +9,31 @@ use Rattle.rules.specs.Progress.{front, Refused}
 use Rattle.rules.proofs.Steps.{rules_more}
 use Rattle.rules.proofs.rule.+read_rules.Goals as goal
 
-pub returns-in-ok-push : goal.returns-in-ok-push
-returns-in-ok-push t c =
+pub returns-in_ok-push : goal.returns-in_ok-push
+returns-in_ok-push t c =
     let w : ℕ = c.in-Some.first in
     let i = c.read-word.ensures.kind in
     let j = c.read-word.ensures.payload in
     let a = c.in-Rule.is in
-    let b = c.if-not-is-clean-2.false in
-    let f = c.is-clean-in-Rule.ensures in
+    let b = c.if-not-is_clean-2.false in
+    let f = c.is_clean-in-Rule.ensures in
     let l = c.label.ensures in
     let k : tag c.read-word.result.kind ≡ 1 = ap tag a in
     let e : kind_of w ≡ 1 = sym i ∙ k in
     let d : clean w ≡ true = cc in
-    let r : read_rule standard (label_in (payload_of w)) c.in-Some.after.now ≡ ok (parts c.in-ok-rule.rule) c.in-ok-rule.next.now
-    = subst (λ (n : ℕ). read_rule standard n c.in-Some.after.now ≡ ok (parts c.in-ok-rule.rule) c.in-ok-rule.next.now)
-    (l ∙ ap label_in j) c.in-ok-rule.ensures in
+    let r : read_rule standard (label_in (payload_of w)) c.in-Some.after.now ≡ ok (parts c.in_ok-rule.rule) c.in_ok-rule.next.now
+    = subst (λ (n : ℕ). read_rule standard n c.in-Some.after.now ≡ ok (parts c.in_ok-rule.rule) c.in_ok-rule.next.now)
+    (l ∙ ap label_in j) c.in_ok-rule.ensures in
     let more
     : front (map parts (vec_items c.args.rules.now)) (read_rules standard c.args.room c.args.ws.now)
-    ≡ front (map parts (vec_items c.push.new.self)) (read_rules standard (c.args.room - 1) c.in-ok-rule.next.now)
+    ≡ front (map parts (vec_items c.push.new.self)) (read_rules standard (c.args.room - 1) c.in_ok-rule.next.now)
     = rules_more c.args.room (map parts (vec_items c.args.rules.now)) c.args.ws.now w c.in-Some.after.now c.in-Some.ensures
-    e d (omega arith) (parts c.in-ok-rule.rule) c.in-ok-rule.next.now r
-    ∙ ap (λ (xs : List Parts). front xs (read_rules standard (c.args.room - 1) c.in-ok-rule.next.now))
-    (sym (ap (map parts) c.in-ok-push.ensures.items ∙ map_push parts (vec_items c.args.rules.now) c.in-ok-rule.rule)) in
+    e d (omega arith) (parts c.in_ok-rule.rule) c.in_ok-rule.next.now r
+    ∙ ap (λ (xs : List Parts). front xs (read_rules standard (c.args.room - 1) c.in_ok-rule.next.now))
+    (sym (ap (map parts) c.in_ok-push.ensures.items ∙ map_push parts (vec_items c.args.rules.now) c.in_ok-rule.rule)) in
     record {
       reads =
-          MatchResult-weaker c.read-rules.result c.read-rules.ensures.reads
+          MatchResult-weaker c.read_rules.result c.read_rules.ensures.reads
           (λ x f. more ∙ f)
           (λ y f. subst (λ (p : Parsed (List Parts)). Refused p y) (sym more) f);
     }

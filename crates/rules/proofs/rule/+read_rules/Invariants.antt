@@ -1,4 +1,4 @@
 use Rattle.rules.proofs.rule.+read_rules.Given as goal
 
-abbrev pub decreases-read-rules : goal.decreases-read-rules
-decreases-read-rules l = l.room
+abbrev pub decreases-read_rules : goal.decreases-read_rules
+decreases-read_rules l = l.room

@@ -4,13 +4,13 @@ use Rattle.facts.specs.Places.{empty}
 use Rattle.stores.proofs.Places.{take_used}
 use Rattle.stores.proofs.used.clear.Goals as goal
 
-pub offset-bounds-memory-place : goal.offset-bounds-memory-place
-offset-bounds-memory-place g c =
+pub offset_bounds-memory-place : goal.offset_bounds-memory-place
+offset_bounds-memory-place g c =
     let l : c.loop-place.place < length c.args.memory.now = omega (arith, c.min-place-end.ensures) in
     search rules
 
-pub offset-bounds-memory-place-in-loop-place : goal.offset-bounds-memory-place-in-loop-place
-offset-bounds-memory-place-in-loop-place g c =
+pub offset_bounds-memory-place-in-loop-place : goal.offset_bounds-memory-place-in-loop-place
+offset_bounds-memory-place-in-loop-place g c =
     let l : c.loop-place.place < length c.args.memory.now = omega (arith, c.min-place-end.ensures) in
     search rules
 

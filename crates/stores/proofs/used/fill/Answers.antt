@@ -5,8 +5,8 @@ use Rattle.stores.specs.Cells.{places_of}
 use Rattle.stores.proofs.Places.{places_in, places_set}
 use Rattle.stores.proofs.used.fill.Goals as goal
 
-pub offset-bounds-memory-place : goal.offset-bounds-memory-place
-offset-bounds-memory-place g c =
+pub offset_bounds-memory-place : goal.offset_bounds-memory-place
+offset_bounds-memory-place g c =
     let m = c.args.memory.now in
     let h : c.args.place < length m = (places_in g.C.Cell.place m c.args.place empty c.requires.0).0 in
     search rules

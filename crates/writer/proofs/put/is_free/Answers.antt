@@ -13,15 +13,15 @@ var bits w n t k e h = h ∙ ap (λ (i : ℕ). not (has bits i)) e ∙ sym (ap (
 odd : (n : ℕ) → eqb (n % 2) 0 ≡ not (eqb (n % 2) 1)
 odd n = grind (arith, nat_tests)
 
-pub returns-then-word-gt-LAST-VAR : goal.returns-then-word-gt-LAST-VAR
-returns-then-word-gt-LAST-VAR c =
+pub returns-then-word-gt-LAST_VAR : goal.returns-then-word-gt-LAST_VAR
+returns-then-word-gt-LAST_VAR c =
     let n = c.read-word.result.payload in
     let k : eqb (kind_of c.args.word) 6 ≡ true = ap (λ (t : ℕ). eqb t 6) (sym c.read-word.ensures.kind) ∙ sym c.if-is.ensures in
     var c.args.variables c.args.word n (ltb 7 n) k c.read-word.ensures.payload
-    (lt-ltb 7 n c.if-word-gt-LAST-VAR.true ∙ sym (ap not (has_past c.args.variables n (omega arith) c.if-word-gt-LAST-VAR.true)))
+    (lt-ltb 7 n c.if-word-gt-LAST_VAR.true ∙ sym (ap not (has_past c.args.variables n (omega arith) c.if-word-gt-LAST_VAR.true)))
 
-pub returns-else-word-gt-LAST-VAR : goal.returns-else-word-gt-LAST-VAR
-returns-else-word-gt-LAST-VAR c =
+pub returns-else-word-gt-LAST_VAR : goal.returns-else-word-gt-LAST_VAR
+returns-else-word-gt-LAST_VAR c =
     let n = c.read-word.result.payload in
     let k : eqb (kind_of c.args.word) 6 ≡ true = ap (λ (t : ℕ). eqb t 6) (sym c.read-word.ensures.kind) ∙ sym c.if-is.ensures in
     var c.args.variables c.args.word n (eqb (c.args.variables / 2 ^ n % 2) 0) k c.read-word.ensures.payload (odd (c.args.variables / 2 ^ n))

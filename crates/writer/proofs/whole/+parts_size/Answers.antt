@@ -11,14 +11,14 @@ returns-then-from-len g t c =
     let l : length xs ≡ c.len.result = sym (c.len.ensures ∙ c.args.parts.now.ok.0) in
     record { value = sym (ap length (none_left (g.P.Part.words (tag c.args.kind)) xs c.args.from (omega (arith, l, c.if-from-len.true)))); bound = omega arith; small = omega arith }
 
-pub part-size-requires : goal.part-size-requires
-part-size-requires g t c =
+pub part_size-requires : goal.part_size-requires
+part_size-requires g t c =
     let xs = vec_items c.args.parts.now in
     let l : length xs ≡ c.len.result = sym (c.len.ensures ∙ c.args.parts.now.ok.0) in
     ∥∥₁_map c.requires.formed (all_here (g.P.Part.words (tag c.args.kind)) xs c.args.from c.index.result.now (omega (arith, l, c.if-from-len.false)) c.index.ensures g.P.Part.formed)
 
-pub parts-size-requires : goal.parts-size-requires
-parts-size-requires g t c κs within =
+pub parts_size-requires : goal.parts_size-requires
+parts_size-requires g t c κs within =
     let xs = vec_items c.args.parts.now in
     let l : length xs ≡ c.len.result = sym (c.len.ensures ∙ c.args.parts.now.ok.0) in
     let h : ∥ All g.P.Part.formed (drop (c.args.from + 1) xs) ∥₁
@@ -31,7 +31,7 @@ returns g t c =
     let l : length xs ≡ c.len.result = sym (c.len.ensures ∙ c.args.parts.now.ok.0) in
     let h : c.args.from < length xs = omega (arith, l, c.if-from-len.false) in
     record {
-      value = size_more (g.P.Part.words (tag c.args.kind)) xs c.args.from c.index.result.now h c.index.ensures c.part-size.result c.parts-size.result c.part-size.ensures.value c.parts-size.ensures.value;
-      bound = omega (arith, l, c.len.ensures, c.if-from-len.false, c.part-size.ensures.bound, c.parts-size.ensures.bound);
-      small = omega (arith, c.part-size.ensures.bound, c.parts-size.ensures.bound, c.requires.few);
+      value = size_more (g.P.Part.words (tag c.args.kind)) xs c.args.from c.index.result.now h c.index.ensures c.part_size.result c.parts_size.result c.part_size.ensures.value c.parts_size.ensures.value;
+      bound = omega (arith, l, c.len.ensures, c.if-from-len.false, c.part_size.ensures.bound, c.parts_size.ensures.bound);
+      small = omega (arith, c.part_size.ensures.bound, c.parts_size.ensures.bound, c.requires.few);
     }

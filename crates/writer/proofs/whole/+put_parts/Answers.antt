@@ -12,8 +12,8 @@ returns-then-from-len g t c =
     let p = puts_end (g.P.Part.words (tag c.args.kind)) xs c.args.from c.args.at c.args.memory.now (omega (arith, l, c.if-from-len.true)) in
     record { memory = p.0; value = p.1 }
 
-pub put-part-at-requires : goal.put-part-at-requires
-put-part-at-requires g t c =
+pub put_part-at-requires : goal.put_part-at-requires
+put_part-at-requires g t c =
     let xs = vec_items c.args.parts.now in
     let l : length xs ≡ c.len.result = sym (c.len.ensures ∙ c.args.parts.now.ok.0) in
     let h : c.args.from < length xs = omega (arith, l, c.if-from-len.false) in
@@ -23,15 +23,15 @@ put-part-at-requires g t c =
       room = room_here (g.P.Part.words (tag c.args.kind)) xs c.args.from c.index.result.now h c.index.ensures c.args.at m c.requires.room;
     }
 
-pub put-parts-requires : goal.put-parts-requires
-put-parts-requires g t c κs within =
+pub put_parts-requires : goal.put_parts-requires
+put_parts-requires g t c κs within =
     let xs = vec_items c.args.parts.now in
     let l : length xs ≡ c.len.result = sym (c.len.ensures ∙ c.args.parts.now.ok.0) in
     let h : c.args.from < length xs = omega (arith, l, c.if-from-len.false) in
     let m = c.args.memory.now in
     let a : ∥ All g.P.Part.formed (drop (c.args.from + 1) xs) ∥₁ = ∥∥₁_map c.requires.formed (all_next (g.P.Part.words (tag c.args.kind)) xs c.args.from c.index.result.now h c.index.ensures g.P.Part.formed) in
-    let r : c.put-part-at.result + length (flat_map (g.P.Part.words (tag c.args.kind)) (drop (c.args.from + 1) xs)) ≤ length c.put-part-at.new.memory
-    = room_next (g.P.Part.words (tag c.args.kind)) xs c.args.from c.index.result.now h c.index.ensures c.args.at m c.requires.room c.put-part-at.result c.put-part-at.new.memory (c.put-part-at.ensures.memory, c.put-part-at.ensures.value) in
+    let r : c.put_part-at.result + length (flat_map (g.P.Part.words (tag c.args.kind)) (drop (c.args.from + 1) xs)) ≤ length c.put_part-at.new.memory
+    = room_next (g.P.Part.words (tag c.args.kind)) xs c.args.from c.index.result.now h c.index.ensures c.args.at m c.requires.room c.put_part-at.result c.put_part-at.new.memory (c.put_part-at.ensures.memory, c.put_part-at.ensures.value) in
     search rules
 
 pub returns : goal.returns
@@ -40,6 +40,6 @@ returns g t c =
     let l : length xs ≡ c.len.result = sym (c.len.ensures ∙ c.args.parts.now.ok.0) in
     let h : c.args.from < length xs = omega (arith, l, c.if-from-len.false) in
     let m = c.args.memory.now in
-    let p = puts_next (g.P.Part.words (tag c.args.kind)) xs c.args.from c.index.result.now h c.index.ensures c.args.at m c.requires.room c.put-part-at.result c.put-parts.result c.put-part-at.new.memory c.put-parts.new.memory
-    (c.put-part-at.ensures.memory, c.put-part-at.ensures.value) (c.put-parts.ensures.memory, c.put-parts.ensures.value) in
+    let p = puts_next (g.P.Part.words (tag c.args.kind)) xs c.args.from c.index.result.now h c.index.ensures c.args.at m c.requires.room c.put_part-at.result c.put_parts.result c.put_part-at.new.memory c.put_parts.new.memory
+    (c.put_part-at.ensures.memory, c.put_part-at.ensures.value) (c.put_parts.ensures.memory, c.put_parts.ensures.value) in
     record { memory = p.0; value = p.1 }

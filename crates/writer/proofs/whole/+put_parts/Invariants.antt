@@ -1,5 +1,5 @@
 use Rattle.std.proofs.Common.{◌-◌, vec_len}
 use Rattle.writer.proofs.whole.+put_parts.Given as goal
 
-abbrev pub decreases-put-parts : goal.decreases-put-parts
-decreases-put-parts g l = vec_len l.parts.now - l.from
+abbrev pub decreases-put_parts : goal.decreases-put_parts
+decreases-put_parts g l = vec_len l.parts.now - l.from

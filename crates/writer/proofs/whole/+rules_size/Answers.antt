@@ -11,14 +11,14 @@ returns-then-from-len t c =
     let l : length xs ≡ c.len.result = sym (c.len.ensures ∙ c.args.rules.now.ok.0) in
     record { value = sym (ap length (none_left words_of xs c.args.from (omega (arith, l, c.if-from-len.true)))); bound = omega arith }
 
-pub rule-size-requires : goal.rule-size-requires
-rule-size-requires t c =
+pub rule_size-requires : goal.rule_size-requires
+rule_size-requires t c =
     let xs = vec_items c.args.rules.now in
     let l : length xs ≡ c.len.result = sym (c.len.ensures ∙ c.args.rules.now.ok.0) in
     ∥∥₁_map c.requires.formed (all_here words_of xs c.args.from c.index.result.now (omega (arith, l, c.if-from-len.false)) c.index.ensures FormedRuleOf)
 
-pub rules-size-requires : goal.rules-size-requires
-rules-size-requires t c =
+pub rules_size-requires : goal.rules_size-requires
+rules_size-requires t c =
     let xs = vec_items c.args.rules.now in
     let l : length xs ≡ c.len.result = sym (c.len.ensures ∙ c.args.rules.now.ok.0) in
     let h : ∥ All FormedRuleOf (drop (c.args.from + 1) xs) ∥₁
@@ -31,6 +31,6 @@ returns t c =
     let l : length xs ≡ c.len.result = sym (c.len.ensures ∙ c.args.rules.now.ok.0) in
     let h : c.args.from < length xs = omega (arith, l, c.if-from-len.false) in
     record {
-      value = size_more words_of xs c.args.from c.index.result.now h c.index.ensures c.rule_size_lem.result c.rules-size.result c.rule_size_lem.ensures.value c.rules-size.ensures.value;
-      bound = omega (arith, l, c.len.ensures, c.if-from-len.false, c.rule_size_lem.ensures.bound, c.rules-size.ensures.bound);
+      value = size_more words_of xs c.args.from c.index.result.now h c.index.ensures c.rule_size_lem.result c.rules_size.result c.rule_size_lem.ensures.value c.rules_size.ensures.value;
+      bound = omega (arith, l, c.len.ensures, c.if-from-len.false, c.rule_size_lem.ensures.bound, c.rules_size.ensures.bound);
     }

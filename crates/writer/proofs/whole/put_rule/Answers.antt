@@ -6,8 +6,8 @@ use Rattle.grammar.specs.Writing.{head_words, guard_words, body_words}
 use Rattle.writer.proofs.Rows.{room_kept, room_taken, room_guards, room_body, rule_puts}
 use Rattle.writer.proofs.whole.put_rule.Goals as goal
 
-pub put-parts-at-requires : goal.put-parts-at-requires
-put-parts-at-requires c =
+pub put_parts-at-requires : goal.put_parts-at-requires
+put_parts-at-requires c =
     let r = c.args.rule.now in
     let ks = flat_map (head_words 2) (vec_items r.kept) in
     let ts = flat_map (head_words 3) (vec_items r.taken) in
@@ -18,8 +18,8 @@ put-parts-at-requires c =
     let w = word 1 r.label in
     record { formed = ∥∥₁_map c.requires.formed (λ g. g.kept); room = room_kept at w ks ts gs bs m c.requires.room }
 
-pub put-parts-at-requires-2 : goal.put-parts-at-requires-2
-put-parts-at-requires-2 c =
+pub put_parts-at-requires-2 : goal.put_parts-at-requires-2
+put_parts-at-requires-2 c =
     let r = c.args.rule.now in
     let ks = flat_map (head_words 2) (vec_items r.kept) in
     let ts = flat_map (head_words 3) (vec_items r.taken) in
@@ -30,11 +30,11 @@ put-parts-at-requires-2 c =
     let w = word 1 r.label in
     record {
       formed = ∥∥₁_map c.requires.formed (λ g. g.taken);
-      room = room_taken at w ks ts gs bs m c.requires.room c.put-parts-at.result c.put-parts-at.new.memory (c.put-parts-at.ensures.memory, c.put-parts-at.ensures.value);
+      room = room_taken at w ks ts gs bs m c.requires.room c.put_parts-at.result c.put_parts-at.new.memory (c.put_parts-at.ensures.memory, c.put_parts-at.ensures.value);
     }
 
-pub put-parts-at-requires-3 : goal.put-parts-at-requires-3
-put-parts-at-requires-3 c =
+pub put_parts-at-requires-3 : goal.put_parts-at-requires-3
+put_parts-at-requires-3 c =
     let r = c.args.rule.now in
     let ks = flat_map (head_words 2) (vec_items r.kept) in
     let ts = flat_map (head_words 3) (vec_items r.taken) in
@@ -45,12 +45,12 @@ put-parts-at-requires-3 c =
     let w = word 1 r.label in
     record {
       formed = ∥∥₁_map c.requires.formed (λ g. g.guards);
-      room = room_guards at w ks ts gs bs m c.requires.room c.put-parts-at.result c.put-parts-at.new.memory (c.put-parts-at.ensures.memory, c.put-parts-at.ensures.value)
-          c.put-parts-at-2.result c.put-parts-at-2.new.memory (c.put-parts-at-2.ensures.memory, c.put-parts-at-2.ensures.value);
+      room = room_guards at w ks ts gs bs m c.requires.room c.put_parts-at.result c.put_parts-at.new.memory (c.put_parts-at.ensures.memory, c.put_parts-at.ensures.value)
+          c.put_parts-at-2.result c.put_parts-at-2.new.memory (c.put_parts-at-2.ensures.memory, c.put_parts-at-2.ensures.value);
     }
 
-pub put-parts-requires : goal.put-parts-requires
-put-parts-requires c =
+pub put_parts-requires : goal.put_parts-requires
+put_parts-requires c =
     let r = c.args.rule.now in
     let ks = flat_map (head_words 2) (vec_items r.kept) in
     let ts = flat_map (head_words 3) (vec_items r.taken) in
@@ -61,9 +61,9 @@ put-parts-requires c =
     let w = word 1 r.label in
     record {
       formed = ∥∥₁_map c.requires.formed (λ g. g.body);
-      room = room_body at w ks ts gs bs m c.requires.room c.put-parts-at.result c.put-parts-at.new.memory (c.put-parts-at.ensures.memory, c.put-parts-at.ensures.value)
-          c.put-parts-at-2.result c.put-parts-at-2.new.memory (c.put-parts-at-2.ensures.memory, c.put-parts-at-2.ensures.value)
-          c.put-parts-at-3.result c.put-parts-at-3.new.memory (c.put-parts-at-3.ensures.memory, c.put-parts-at-3.ensures.value);
+      room = room_body at w ks ts gs bs m c.requires.room c.put_parts-at.result c.put_parts-at.new.memory (c.put_parts-at.ensures.memory, c.put_parts-at.ensures.value)
+          c.put_parts-at-2.result c.put_parts-at-2.new.memory (c.put_parts-at-2.ensures.memory, c.put_parts-at-2.ensures.value)
+          c.put_parts-at-3.result c.put_parts-at-3.new.memory (c.put_parts-at-3.ensures.memory, c.put_parts-at-3.ensures.value);
     }
 
 pub returns : goal.returns
@@ -76,8 +76,8 @@ returns c =
     let at = c.args.at in
     let m = c.args.memory.now in
     let w = word 1 r.label in
-    let p = rule_puts at w ks ts gs bs m c.requires.room c.put-parts-at.result c.put-parts-at.new.memory (c.put-parts-at.ensures.memory, c.put-parts-at.ensures.value)
-    c.put-parts-at-2.result c.put-parts-at-2.new.memory (c.put-parts-at-2.ensures.memory, c.put-parts-at-2.ensures.value)
-    c.put-parts-at-3.result c.put-parts-at-3.new.memory (c.put-parts-at-3.ensures.memory, c.put-parts-at-3.ensures.value)
-    c.put-parts.result c.put-parts.new.memory (c.put-parts.ensures.memory, c.put-parts.ensures.value) in
+    let p = rule_puts at w ks ts gs bs m c.requires.room c.put_parts-at.result c.put_parts-at.new.memory (c.put_parts-at.ensures.memory, c.put_parts-at.ensures.value)
+    c.put_parts-at-2.result c.put_parts-at-2.new.memory (c.put_parts-at-2.ensures.memory, c.put_parts-at-2.ensures.value)
+    c.put_parts-at-3.result c.put_parts-at-3.new.memory (c.put_parts-at-3.ensures.memory, c.put_parts-at-3.ensures.value)
+    c.put_parts.result c.put_parts.new.memory (c.put_parts.ensures.memory, c.put_parts.ensures.value) in
     record { memory = p.0; value = p.1 }

@@ -7,8 +7,8 @@ use Rattle.lists.proofs.Fronts.{cut_short, front_length, front_push}
 use Rattle.lists.proofs.Rings.{rotated_length, rotated_set}
 use Rattle.lists.proofs.first.FirstFirstWaitingList.put.Goals as goal
 
-pub offset-bounds-self-at : goal.offset-bounds-self-at
-offset-bounds-self-at g c =
+pub offset_bounds-self-at : goal.offset_bounds-self-at
+offset_bounds-self-at g c =
     let h : c.slot-at.result < length c.args.self.now.memory.now = omega (arith, c.slot-at.ensures.0, c.capacity-capacity.ensures.value) in
     search rules
 

@@ -6,8 +6,8 @@ use Rattle.lists.specs.Built.{kept, used, last_waiting}
 use Rattle.lists.proofs.Fronts.{cut_short, front_length, front_push}
 use Rattle.lists.proofs.last.LastFirstWaitingList.put.Goals as goal
 
-pub offset-bounds-self-count : goal.offset-bounds-self-count
-offset-bounds-self-count g c =
+pub offset_bounds-self-count : goal.offset_bounds-self-count
+offset_bounds-self-count g c =
     let h : c.count-count.result < length c.args.self.now.memory.now = omega (arith, c.capacity.ensures.value) in
     search rules
 

@@ -12,8 +12,8 @@ returns g c p q =
     let u = g.met.V.Kind.under in
     under_held c.args.number _ p
     ∙ ap (held c.args.number)
-    (words_exact low high (f.name * 256 + f.count) c.word-of-first.result c.word-of-second.result
-    c.word-of-third.result f.name f.count _ _ _ refl l q
-    (λ h. word_exact low high _ _ (c.word-of-first.ensures.kept h) (u _))
-    (λ h. word_exact low high _ _ (c.word-of-second.ensures.kept h) (u _))
-    (λ h. word_exact low high _ _ (c.word-of-third.ensures.kept h) (u _)))
+    (words_exact low high (f.name * 256 + f.count) c.word_of-first.result c.word_of-second.result
+    c.word_of-third.result f.name f.count _ _ _ refl l q
+    (λ h. word_exact low high _ _ (c.word_of-first.ensures.kept h) (u _))
+    (λ h. word_exact low high _ _ (c.word_of-second.ensures.kept h) (u _))
+    (λ h. word_exact low high _ _ (c.word_of-third.ensures.kept h) (u _)))

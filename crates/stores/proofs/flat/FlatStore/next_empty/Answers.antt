@@ -8,5 +8,5 @@ returns-in-None g c =
     let s = c.args.self.now in
     let m = s.cells.now in
     let f = flat_place g.V.Kind.meaning in
-    round (places_of f m) s.mark (length m) c.first-empty-in-None.result c.in-None.ensures
-    (omega (arith, places_length f m)) c.first-empty-in-None.ensures
+    round (places_of f m) s.mark (length m) c.first_empty-in-None.result c.in-None.ensures
+    (omega (arith, places_length f m)) c.first_empty-in-None.ensures

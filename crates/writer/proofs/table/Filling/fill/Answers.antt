@@ -7,7 +7,7 @@ use Rattle.writer.proofs.table.Filling.fill.Goals as goal
 pub returns-in-Ok : goal.returns-in-Ok
 returns-in-Ok c =
     let m = c.args.memory.now in
-    let m' = c.add-body.new.memory in
+    let m' = c.add_body.new.memory in
     let x = c.args.fact in
     let a = c.in-Ok.ensures in
     record {

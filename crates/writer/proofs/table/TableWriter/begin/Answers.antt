@@ -12,7 +12,7 @@ returns-in-Ok c =
     let t = c.args.self in
     let n = c.args.label in
     let m = c.args.memory.now in
-    let m' = c.add-word.new.memory in
+    let m' = c.add_word.new.memory in
     let a = c.in-Ok.ensures in
     let w : Wrote (t.rules < 32) (Unit {0}) (t.last < n) t.used (word 1 n ∷ []) m m'
     = record { numbers = omega arith; variables = tt; label = omega arith; room = a.1; memory = a.2 } in

@@ -6,5 +6,5 @@ returns-in-Ok c =
     let a = c.in-Ok.ensures in
     record {
       does = (record { numbers = tt; variables = tt; label = tt; room = a.1; memory = a.2 }, a.0);
-      table = λ rs d. table_ended c.args.self c.in-Ok.after c.args.memory.now c.add-word.new.memory rs d a.0 a.2;
+      table = λ rs d. table_ended c.args.self c.in-Ok.after c.args.memory.now c.add_word.new.memory rs d a.0 a.2;
     }

@@ -6,7 +6,7 @@ use Rattle.writer.proofs.table.Taking.close.Goals as goal
 
 pub returns : goal.returns
 returns c =
-    let e = c.closed-table.ensures in
+    let e = c.closed_table.ensures in
     record {
       state = (e, refl);
       table = λ m rs p o s. subst (λ (w : TableWriter). Tabled w m (rs ++ p ∷ [])) (sym e) (rule_closed c.args.self.tally m rs p o s.0);

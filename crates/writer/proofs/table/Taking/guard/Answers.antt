@@ -7,7 +7,7 @@ use Rattle.writer.proofs.table.Taking.guard.Goals as goal
 pub returns-in-Ok : goal.returns-in-Ok
 returns-in-Ok c =
     let m = c.args.memory.now in
-    let m' = c.add-guard.new.memory in
+    let m' = c.add_guard.new.memory in
     let x = c.args.guard in
     let a = c.in-Ok.ensures in
     record {

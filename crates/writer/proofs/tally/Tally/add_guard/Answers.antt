@@ -15,11 +15,11 @@ returns c =
     let cs = code_words c.in-Some.code in
     let m = c.args.memory.now in
     let k = c.in-Some.ensures in
-    let p = c.in-ok-used.ensures in
-    let u : c.in-ok-used.used ≡ t.used + guard_size x
-    = after_words (GuardFits t x) (Within t.variables) t.used c.in-ok-used.used cs (guard_words x) m c.add-code.new.memory k.1
+    let p = c.in_ok-used.ensures in
+    let u : c.in_ok-used.used ≡ t.used + guard_size x
+    = after_words (GuardFits t x) (Within t.variables) t.used c.in_ok-used.used cs (guard_words x) m c.add_code.new.memory k.1
     (guard_size x) (guard_length x) p.0 in (
-      wrote (GuardFits t x) (Within t.variables) t.used c.in-ok-used.used cs (guard_words x) m c.add-code.new.memory k.1
-          (k.0, c.if-self-ge-MOST-GUARDS.false) (c.is-within.ensures.0 c.if-not-is-within.false) p.1 p.2,
+      wrote (GuardFits t x) (Within t.variables) t.used c.in_ok-used.used cs (guard_words x) m c.add_code.new.memory k.1
+          (k.0, c.if-self-ge-MOST_GUARDS.false) (c.is_within.ensures.0 c.if-not-is_within.false) p.1 p.2,
       cc,
     )

@@ -16,12 +16,12 @@ returns c =
     let ws = head_words (tag c.args.kind) x in
     let m = c.args.memory.now in
     let k = c.in-Some.ensures in
-    let p = c.in-ok-used.ensures in
-    let b = c.bind-head.ensures in
-    let u : c.in-ok-used.used ≡ t.used + head_size x
-    = after_words (HeadFits t x) (λ _. Unit {0}) t.used c.in-ok-used.used cs ws m c.add-code.new.memory k.1
+    let p = c.in_ok-used.ensures in
+    let b = c.bind_head.ensures in
+    let u : c.in_ok-used.used ≡ t.used + head_size x
+    = after_words (HeadFits t x) (λ _. Unit {0}) t.used c.in_ok-used.used cs ws m c.add_code.new.memory k.1
     (head_size x) (head_length (tag c.args.kind) x) p.0 in (
-      wrote (HeadFits t x) (λ _. Unit {0}) t.used c.in-ok-used.used cs ws m c.add-code.new.memory k.1
-          (k.0, c.if-self-ge-MOST-HEADS.false) tt p.1 p.2,
+      wrote (HeadFits t x) (λ _. Unit {0}) t.used c.in_ok-used.used cs ws m c.add_code.new.memory k.1
+          (k.0, c.if-self-ge-MOST_HEADS.false) tt p.1 p.2,
       cc,
     )
