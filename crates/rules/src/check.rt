@@ -103,8 +103,8 @@ fn rule_size(rule: &Rule) -> usize
 
 // The fault of a well-formed rule and its offset in the rule's words; the label before it was `last`.
 fn rule_fault(rule: &Rule, last: u16, ws: &[u32]) -> Option<(LoadFault, usize)>
-    requires formed_rule { FormedRule standard (parts rule.now) }
-    requires ws_value { ws.now ≡ rule_words (parts rule.now) }
+    requires formed { FormedRule standard (parts rule.now) }
+    requires words { ws.now ≡ rule_words (parts rule.now) }
     ensures { MatchOption result (Sound (parts rule.now) × (last < rule.now.label)) (λ x. RuleFault (parts rule.now) last x.0 x.1) }
 {
     let heads = heads_size(rule);
@@ -123,7 +123,7 @@ fn rule_fault(rule: &Rule, last: u16, ws: &[u32]) -> Option<(LoadFault, usize)>
 // The first fault of the rules of a well-formed table and its place in the table's words.
 pub(crate) fn first_fault(rules: &Vec<Rule>, ws: &[u32]) -> Option<(LoadFault, usize)>
     requires formed { Formed standard (map parts rules.now.items) }
-    requires by_index { (us : List ℕ) × (ws.now ≡ written (map parts rules.now.items) ++ us) }
+    requires begins { (us : List ℕ) × (ws.now ≡ written (map parts rules.now.items) ++ us) }
     ensures { MatchOption result (All Sound (map parts rules.now.items) × Rising 0 (map parts rules.now.items)) (λ x. FirstFault (map parts rules.now.items) x.0 x.1) }
 {
     let mut at = 0;

@@ -10,7 +10,7 @@ use Rattle.matching.proofs.Bits.{as_bits}
 use Rattle.matching.proofs.Bodies.{nth_map}
 use Rattle.matching.proofs.Laws.{body_is_exact}
 use Rattle.matching.proofs.rule.body_fact.Goals as goal
-use Rattle.matching.proofs.rule.body_fact.Goals.{then-not-bind-rule, else-not-bind-rule}
+use Rattle.matching.proofs.rule.body_fact.Goals.{then-not-bind_rule, else-not-bind_rule}
 
 pub returns-then-index-body_count : goal.returns-then-index-body_count
 returns-then-index-body_count c =

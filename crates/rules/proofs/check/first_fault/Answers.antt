@@ -15,14 +15,14 @@ pub rule_size-size-requires : goal.rule_size-size-requires
 rule_size-size-requires c =
     let n : Nth (map parts (vec_items c.args.rules.now)) c.loop-rule.rule-index (parts c.rule-item.result)
     = rule_nth (vec_items c.args.rules.now) c.deref-rule-items.result.now c.loop-rule.rule-index c.rule-item.result c.deref-rule-items.ensures.value c.loop-rule-test.true c.rule-item.is in
-    all_nth (FormedRule standard) (map parts (vec_items c.args.rules.now)) c.loop-rule.rule-index (parts c.rule-item.result) c.requires.0.each n
+    all_nth (FormedRule standard) (map parts (vec_items c.args.rules.now)) c.loop-rule.rule-index (parts c.rule-item.result) c.requires.formed.each n
 
 pub overflow_add-at : goal.overflow_add-at
 overflow_add-at c =
     let n : Nth (map parts (vec_items c.args.rules.now)) c.loop-rule.rule-index (parts c.rule-item.result)
     = rule_nth (vec_items c.args.rules.now) c.deref-rule-items.result.now c.loop-rule.rule-index c.rule-item.result c.deref-rule-items.ensures.value c.loop-rule-test.true c.rule-item.is in
     let h : c.loop-rule.at + c.rule_size-size.result ≤ length c.args.ws.now
-    = rule_within (map parts (vec_items c.args.rules.now)) c.loop-rule.rule-index (parts c.rule-item.result) n c.requires.1.0 c.args.ws.now c.requires.1.1 c.loop-rule.at c.rule_size-size.result c.loop-rule.invariant.0 c.rule_size-size.ensures.value in
+    = rule_within (map parts (vec_items c.args.rules.now)) c.loop-rule.rule-index (parts c.rule-item.result) n c.requires.begins.0 c.args.ws.now c.requires.begins.1 c.loop-rule.at c.rule_size-size.result c.loop-rule.invariant.0 c.rule_size-size.ensures.value in
     omega arith
 
 pub offset_bounds-ws-at : goal.offset_bounds-ws-at
@@ -30,7 +30,7 @@ offset_bounds-ws-at c =
     let n : Nth (map parts (vec_items c.args.rules.now)) c.loop-rule.rule-index (parts c.rule-item.result)
     = rule_nth (vec_items c.args.rules.now) c.deref-rule-items.result.now c.loop-rule.rule-index c.rule-item.result c.deref-rule-items.ensures.value c.loop-rule-test.true c.rule-item.is in
     let h : c.loop-rule.at + c.rule_size-size.result ≤ length c.args.ws.now
-    = rule_within (map parts (vec_items c.args.rules.now)) c.loop-rule.rule-index (parts c.rule-item.result) n c.requires.1.0 c.args.ws.now c.requires.1.1 c.loop-rule.at c.rule_size-size.result c.loop-rule.invariant.0 c.rule_size-size.ensures.value in
+    = rule_within (map parts (vec_items c.args.rules.now)) c.loop-rule.rule-index (parts c.rule-item.result) n c.requires.begins.0 c.args.ws.now c.requires.begins.1 c.loop-rule.at c.rule_size-size.result c.loop-rule.invariant.0 c.rule_size-size.ensures.value in
     omega arith
 
 pub slice_bounds-rule_fault-end : goal.slice_bounds-rule_fault-end
@@ -38,21 +38,24 @@ slice_bounds-rule_fault-end c =
     let n : Nth (map parts (vec_items c.args.rules.now)) c.loop-rule.rule-index (parts c.rule-item.result)
     = rule_nth (vec_items c.args.rules.now) c.deref-rule-items.result.now c.loop-rule.rule-index c.rule-item.result c.deref-rule-items.ensures.value c.loop-rule-test.true c.rule-item.is in
     let h : c.loop-rule.at + c.rule_size-size.result ≤ length c.args.ws.now
-    = rule_within (map parts (vec_items c.args.rules.now)) c.loop-rule.rule-index (parts c.rule-item.result) n c.requires.1.0 c.args.ws.now c.requires.1.1 c.loop-rule.at c.rule_size-size.result c.loop-rule.invariant.0 c.rule_size-size.ensures.value in
+    = rule_within (map parts (vec_items c.args.rules.now)) c.loop-rule.rule-index (parts c.rule-item.result) n c.requires.begins.0 c.args.ws.now c.requires.begins.1 c.loop-rule.at c.rule_size-size.result c.loop-rule.invariant.0 c.rule_size-size.ensures.value in
     omega arith
 
 pub rule_fault-requires : goal.rule_fault-requires
 rule_fault-requires c =
     let n : Nth (map parts (vec_items c.args.rules.now)) c.loop-rule.rule-index (parts c.rule-item.result)
     = rule_nth (vec_items c.args.rules.now) c.deref-rule-items.result.now c.loop-rule.rule-index c.rule-item.result c.deref-rule-items.ensures.value c.loop-rule-test.true c.rule-item.is in
-    (all_nth (FormedRule standard) (map parts (vec_items c.args.rules.now)) c.loop-rule.rule-index (parts c.rule-item.result) c.requires.0.each n, rule_slice (map parts (vec_items c.args.rules.now)) c.loop-rule.rule-index (parts c.rule-item.result) n c.requires.1.0 c.args.ws.now c.requires.1.1 c.loop-rule.at c.rule_size-size.result c.loop-rule.invariant.0 c.rule_size-size.ensures.value)
+    record {
+      formed = all_nth (FormedRule standard) (map parts (vec_items c.args.rules.now)) c.loop-rule.rule-index (parts c.rule-item.result) c.requires.formed.each n;
+      words = rule_slice (map parts (vec_items c.args.rules.now)) c.loop-rule.rule-index (parts c.rule-item.result) n c.requires.begins.0 c.args.ws.now c.requires.begins.1 c.loop-rule.at c.rule_size-size.result c.loop-rule.invariant.0 c.rule_size-size.ensures.value;
+    }
 
 pub overflow_add-result : goal.overflow_add-result
 overflow_add-result c =
     let n : Nth (map parts (vec_items c.args.rules.now)) c.loop-rule.rule-index (parts c.rule-item.result)
     = rule_nth (vec_items c.args.rules.now) c.deref-rule-items.result.now c.loop-rule.rule-index c.rule-item.result c.deref-rule-items.ensures.value c.loop-rule-test.true c.rule-item.is in
     let h : c.loop-rule.at + c.rule_size-size.result ≤ length c.args.ws.now
-    = rule_within (map parts (vec_items c.args.rules.now)) c.loop-rule.rule-index (parts c.rule-item.result) n c.requires.1.0 c.args.ws.now c.requires.1.1 c.loop-rule.at c.rule_size-size.result c.loop-rule.invariant.0 c.rule_size-size.ensures.value in
+    = rule_within (map parts (vec_items c.args.rules.now)) c.loop-rule.rule-index (parts c.rule-item.result) n c.requires.begins.0 c.args.ws.now c.requires.begins.1 c.loop-rule.at c.rule_size-size.result c.loop-rule.invariant.0 c.rule_size-size.ensures.value in
     let f = fault_within (parts c.rule-item.result) c.loop-rule.last c.in-Some.fault c.in-Some.offset c.in-Some.ensures in
     omega (arith, c.rule_size-size.ensures.value)
 
@@ -76,7 +79,7 @@ overflow_add-at-in-loop-rule c =
     let n : Nth (map parts (vec_items c.args.rules.now)) c.loop-rule.rule-index (parts c.rule-item.result)
     = rule_nth (vec_items c.args.rules.now) c.deref-rule-items.result.now c.loop-rule.rule-index c.rule-item.result c.deref-rule-items.ensures.value c.loop-rule-test.true c.rule-item.is in
     let h : c.loop-rule.at + c.rule_size-size.result ≤ length c.args.ws.now
-    = rule_within (map parts (vec_items c.args.rules.now)) c.loop-rule.rule-index (parts c.rule-item.result) n c.requires.1.0 c.args.ws.now c.requires.1.1 c.loop-rule.at c.rule_size-size.result c.loop-rule.invariant.0 c.rule_size-size.ensures.value in
+    = rule_within (map parts (vec_items c.args.rules.now)) c.loop-rule.rule-index (parts c.rule-item.result) n c.requires.begins.0 c.args.ws.now c.requires.begins.1 c.loop-rule.at c.rule_size-size.result c.loop-rule.invariant.0 c.rule_size-size.ensures.value in
     omega arith
 
 pub loop-rule-preserved : goal.loop-rule-preserved

@@ -3,7 +3,7 @@ use Rattle.std.proofs.lemmas.List.{take_all}
 use Rattle.std.proofs.lemmas.List.Sums.{sum_by_more}
 use Rattle.words.specs.Words.{tag, kind_of}
 use Rattle.rules.proofs.loader.count_rules.Goals as goal
-use Rattle.rules.proofs.loader.count_rules.Goals.{then_is, else_is}
+use Rattle.rules.proofs.loader.count_rules.Goals.{then-is, else-is}
 
 pub loop-word-preserved : goal.loop-word-preserved
 loop-word-preserved c =
@@ -12,11 +12,11 @@ loop-word-preserved c =
     let k : eqb (kind_of (get_or c.args.ws.now c.loop-word.word-index 0)) 1 ≡ c.is.result
     = ap (λ (n : ℕ). eqb n 1) (sym c.read.ensures.kind) ∙ sym c.is.ensures in
     elim c.if-is.branch [
-      | then_is w ↦
+      | then-is w ↦
           let e : p (get_or c.args.ws.now c.loop-word.word-index 0) ≡ true = k ∙ w.if-is.true in
           let f = rw e at m in
           (omega (arith, w.count-is, f, c.loop-word.invariant.0), omega (arith, w.count-is, c.loop-word.invariant.1))
-      | else_is w ↦
+      | else-is w ↦
           let e : p (get_or c.args.ws.now c.loop-word.word-index 0) ≡ false = k ∙ w.if-is.false in
           let f = rw e at m in
           (omega (arith, w.count-is, f, c.loop-word.invariant.0), omega (arith, w.count-is, c.loop-word.invariant.1))

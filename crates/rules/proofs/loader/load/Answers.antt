@@ -23,7 +23,7 @@ pub first_fault-requires : goal.first_fault-requires
 first_fault-requires c =
     let h : read_table standard c.args.words.now ≡ ok (map parts (vec_items c.read_rules.new.rules)) c.in-Ok.rest.now
     = front_at _ _ _ (ap (map parts) c.new-rules.ensures.items) c.in-Ok.ensures.reads in
-    (table_formed c.args.words.now _ _ h, (c.in-Ok.rest.now, table_words c.args.words.now _ _ h))
+    record { formed = table_formed c.args.words.now _ _ h; begins = (c.in-Ok.rest.now, table_words c.args.words.now _ _ h) }
 
 pub returns-in-Some : goal.returns-in-Some
 returns-in-Some c =
@@ -51,7 +51,7 @@ invariant_of-result c =
     let h : read_table standard c.args.words.now ≡ ok (map parts (vec_items c.read_rules.new.rules)) c.in-Ok.rest.now
     = front_at _ _ _ (ap (map parts) c.new-rules.ensures.items) c.in-Ok.ensures.reads in
     let s = c.in_default.ensures in
-    (∣ record { formed = table_formed c.args.words.now _ _ h; sound = s.0; rising = s.1 } ∣₁, tt)
+    record { valid = ∣ record { formed = table_formed c.args.words.now _ _ h; sound = s.0; rising = s.1 } ∣₁ }
 
 pub returns : goal.returns
 returns c =

@@ -9,8 +9,8 @@ use Rattle.rules.specs.Progress.{front, Refused}
 use Rattle.rules.proofs.Steps.{rules_more}
 use Rattle.rules.proofs.rule.+read_rules.Goals as goal
 
-pub returns-in_ok-push : goal.returns-in_ok-push
-returns-in_ok-push t c =
+pub returns-in_ok-push-in-Rule : goal.returns-in_ok-push-in-Rule
+returns-in_ok-push-in-Rule t c =
     let w : ℕ = c.in-Some.first in
     let i = c.read-word.ensures.kind in
     let j = c.read-word.ensures.payload in
@@ -21,16 +21,16 @@ returns-in_ok-push t c =
     let k : tag c.read-word.result.kind ≡ 1 = ap tag a in
     let e : kind_of w ≡ 1 = sym i ∙ k in
     let d : clean w ≡ true = cc in
-    let r : read_rule standard (label_in (payload_of w)) c.in-Some.after.now ≡ ok (parts c.in_ok-rule.rule) c.in_ok-rule.next.now
-    = subst (λ (n : ℕ). read_rule standard n c.in-Some.after.now ≡ ok (parts c.in_ok-rule.rule) c.in_ok-rule.next.now)
-    (l ∙ ap label_in j) c.in_ok-rule.ensures in
+    let r : read_rule standard (label_in (payload_of w)) c.in-Some.after.now ≡ ok (parts c.in_ok-rule-in-Rule.rule) c.in_ok-rule-in-Rule.next.now
+    = subst (λ (n : ℕ). read_rule standard n c.in-Some.after.now ≡ ok (parts c.in_ok-rule-in-Rule.rule) c.in_ok-rule-in-Rule.next.now)
+    (l ∙ ap label_in j) c.in_ok-rule-in-Rule.ensures in
     let more
     : front (map parts (vec_items c.args.rules.now)) (read_rules standard c.args.room c.args.ws.now)
-    ≡ front (map parts (vec_items c.push.new.self)) (read_rules standard (c.args.room - 1) c.in_ok-rule.next.now)
+    ≡ front (map parts (vec_items c.push.new.self)) (read_rules standard (c.args.room - 1) c.in_ok-rule-in-Rule.next.now)
     = rules_more c.args.room (map parts (vec_items c.args.rules.now)) c.args.ws.now w c.in-Some.after.now c.in-Some.ensures
-    e d (omega arith) (parts c.in_ok-rule.rule) c.in_ok-rule.next.now r
-    ∙ ap (λ (xs : List Parts). front xs (read_rules standard (c.args.room - 1) c.in_ok-rule.next.now))
-    (sym (ap (map parts) c.in_ok-push.ensures.items ∙ map_push parts (vec_items c.args.rules.now) c.in_ok-rule.rule)) in
+    e d (omega arith) (parts c.in_ok-rule-in-Rule.rule) c.in_ok-rule-in-Rule.next.now r
+    ∙ ap (λ (xs : List Parts). front xs (read_rules standard (c.args.room - 1) c.in_ok-rule-in-Rule.next.now))
+    (sym (ap (map parts) c.in_ok-push-in-Rule.ensures.items ∙ map_push parts (vec_items c.args.rules.now) c.in_ok-rule-in-Rule.rule)) in
     record {
       reads =
           MatchResult-weaker c.read_rules.result c.read_rules.ensures.reads
