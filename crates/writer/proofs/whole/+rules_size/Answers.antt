@@ -31,6 +31,6 @@ returns t c =
     let l : length xs ≡ c.len.result = sym (c.len.ensures ∙ c.args.rules.now.ok.0) in
     let h : c.args.from < length xs = omega (arith, l, c.if-from-len.false) in
     record {
-      value = size_more words_of xs c.args.from c.index.result.now h c.index.ensures c.rule_size_lem.result c.rules_size.result c.rule_size_lem.ensures.value c.rules_size.ensures.value;
-      bound = omega (arith, l, c.len.ensures, c.if-from-len.false, c.rule_size_lem.ensures.bound, c.rules_size.ensures.bound);
+      value = size_more words_of xs c.args.from c.index.result.now h c.index.ensures c.rule_size.result c.rules_size.result c.rule_size.ensures.value c.rules_size.ensures.value;
+      bound = omega (arith, l, c.len.ensures, c.if-from-len.false, c.rule_size.ensures.bound, c.rules_size.ensures.bound);
     }
