@@ -1,12 +1,16 @@
 #!/usr/bin/env bash
 # Source that must be rejected before any proof: each .ci/rejects/NAME.txt has what is expected (an error, or accepted) and a
-# function over the writer's states. It is tried as a small crate in a copy of the repository, outside of it.
+# function over the writer's states. It is tried as a small program over the writer's sources, in a folder outside of the
+# repository.
 set -u
 root=$(cd "$(dirname "$0")/.." && pwd -P)
 work=$(mktemp -d) || exit 2
 trap 'rm -rf "$work"' EXIT
-cp -R "$root/crates" "$root/crates.txt" "$work/"
-[ -d "$root/target" ] && cp -R "$root/target" "$work/"
+for name in facts words grammar rules writer; do
+    mkdir -p "$work/crates/$name"
+    cp -R "$root/crates/$name/src" "$root/crates/$name/specs" "$work/crates/$name/"
+    grep "^$name:" "$root/crates.txt" >>"$work/crates.txt"
+done
 echo 'sample: grammar writer' >>"$work/crates.txt"
 mkdir -p "$work/crates/sample/src"
 bad=0
@@ -14,17 +18,18 @@ for sample in "$root"/.ci/rejects/*.txt; do
     name=$(basename "$sample" .txt)
     expect=$(sed -n 's/^expect: //p' "$sample")
     {
-        for part in Guard Head; do grep -q "[^a-z]$part[^a-z]" <(grep -v '^//' "$sample") && echo "use grammar::$part;"; done
+        for part in Guard Head; do grep -v '^//' "$sample" | grep -q "[^a-z]$part[^a-z]" && echo "use grammar::$part;"; done
         for state in Begun Filling Guarding TableWriter Taking; do grep -q ": $state" "$sample" && echo "use writer::$state;"; done
         echo
         grep -v '^expect: ' "$sample"
-    } >"$work/crates/sample/src/lib.rt"
-    (cd "$work" && rt dev sample) >"$work/log" 2>&1
+        printf '\nfn main() {}\n'
+    } >"$work/crates/sample/src/main.rt"
+    (cd "$work/crates/sample" && rt try) >"$work/log" 2>&1
     status=$?
     if [ "$expect" = accepted ]; then
         [ $status -eq 0 ] && found=yes || found=no
     else
-        [ $status -ne 0 ] && grep -qF "crates/sample/src/lib.rt" "$work/log" && grep -qF "$expect" "$work/log" && found=yes || found=no
+        [ $status -ne 0 ] && grep -qF "src/main.rt" "$work/log" && grep -qF "$expect" "$work/log" && found=yes || found=no
     fi
     if [ $found = yes ]; then
         echo "sample $name: $expect, as it must be"

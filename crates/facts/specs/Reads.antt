@@ -3,7 +3,7 @@ use Rattle.std.specs.Prelude.{◌≡◌, ℕ, ◌<◌, ◌≤◌, min, Bool, tru
 use Rattle.facts.specs.declared.fact.Fact.{Fact}
 use Rattle.facts.specs.declared.fact.ReadFact.{ReadFact}
 use Rattle.facts.specs.Kinds.{Between}
-use Rattle.facts.specs.Meanings.{Meaning, meaning, read_meaning}
+use Rattle.facts.specs.Meanings.{meaning, read_meaning}
 
 -- a fact with every argument read, the spare ones too
 abbrev pub as_read : {V : Type 0} → (V → ℤ) → Fact V → ReadFact

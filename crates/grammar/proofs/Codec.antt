@@ -1,11 +1,11 @@
 -- Reading accepts exactly what is written: each reader reads back what was written, and has read only what was written.
-use Rattle.std.proofs.Common.{◌≡◌, ℕ, zero, suc, ◌+◌, ◌-◌, ◌*◌, ◌/◌, ◌%◌, ◌^◌, ◌<◌, ◌≤◌, Bool, true, false, cond, eqb, ltb, List, [], ◌∷◌, ◌++◌, length, get_or, sym, refl, ap, ◌∙◌, subst, ap₂, append_assoc, arith}
+use Rattle.std.proofs.Common.{◌≡◌, ℕ, zero, suc, ◌+◌, ◌-◌, ◌*◌, ◌^◌, ◌<◌, ◌≤◌, Bool, true, false, cond, eqb, ltb, List, [], ◌∷◌, ◌++◌, length, get_or, sym, refl, ap, ◌∙◌, subst, ap₂, append_assoc, arith}
 use lib.Bits.{bit_and}
 use Rattle.std.specs.List.{flat_map, AllByRecursion as All}
 use Rattle.std.proofs.lemmas.Bool.Decides.{nat_tests}
 use Rattle.words.specs.Words.{kind_of, payload_of, word, masks, allowed, clean, name_in, count_in, label_in, signed, unsigned}
 use Rattle.grammar.specs.declared.reason.Reason.{Reason}
-use Rattle.grammar.specs.declared.reason.Reason.TheVariants.{OutOfTurn, StrayBit, OutOfRange}
+use Rattle.grammar.specs.declared.reason.Reason.TheVariants.{StrayBit, OutOfRange}
 use Rattle.grammar.specs.declared.part.Operand.{Operand}
 use Rattle.grammar.specs.declared.part.Operand.TheVariants.{Var, Const}
 use Rattle.grammar.specs.declared.part.Term.{Term}
@@ -18,7 +18,7 @@ use Rattle.grammar.specs.declared.part.Head.{Head}
 use Rattle.grammar.specs.declared.part.Guard.{Guard}
 use Rattle.grammar.specs.declared.part.BodyFact.{BodyFact}
 use Rattle.grammar.specs.Parts.{listed, amount, Parts}
-use Rattle.grammar.specs.Writing.{operand_words, term_words, head_words, test_number, guard_words, body_words, heads_words, tail_words, rule_words, written}
+use Rattle.grammar.specs.Writing.{operand_words, term_words, head_words, test_number, guard_words, body_words, heads_words, tail_words, written}
 use Rattle.grammar.specs.Writing.{Limits, FormedOperand, FormedTerm, FormedHead, FormedGuard, FormedBody, FormedRule, Formed}
 use Rattle.grammar.specs.Reading.{Parsed, ok, no, then, read_operand, read_pair, read_term, read_args, read_head, test_at, read_guard, read_body, read_parts, read_rule, read_rules, read_table}
 use Rattle.grammar.proofs.Payloads.{kind_word, payload_word, payload_lt, word_parts, clean_word, clean_payload, none_only, four_only, four_all, label_only, label_all, const_all}

@@ -6,7 +6,7 @@ use Rattle.words.specs.Words.{kind_of, word}
 use Rattle.grammar.specs.declared.reason.Reason.{Reason}
 use Rattle.grammar.specs.declared.reason.Reason.TheVariants.{OutOfTurn, StrayBit, OutOfRange}
 use Rattle.grammar.specs.Parts.{Parts}
-use Rattle.grammar.specs.Writing.{Limits, standard, Formed, written}
+use Rattle.grammar.specs.Writing.{Limits, standard, written}
 use Rattle.grammar.specs.Reading.{Parsed, ok, no, read_table}
 use Rattle.grammar.specs.Faults.{Begins, Holds, InTurn, Why, Faulty}
 use Rattle.grammar.proofs.Codec.{table_all, table_only}

@@ -1,5 +1,5 @@
 -- The first faulty word of a table, told from the words of well-formed tables.
-use Rattle.std.specs.Prelude.{◌≡◌, ℕ, suc, ◌^◌, ◌<◌, Bool, true, false, cond, ◌⊎◌, List, [], ◌∷◌, ◌++◌, length, take, count_by, nat_eq}
+use Rattle.std.specs.Prelude.{◌≡◌, ℕ, suc, ◌^◌, ◌<◌, true, false, ◌⊎◌, List, [], ◌∷◌, ◌++◌, length, take, count_by, nat_eq}
 use Rattle.facts.specs.Lists.{Nth}
 use Rattle.words.specs.Words.{kind_of, clean, word}
 use Rattle.grammar.specs.declared.reason.Reason.{Reason}

@@ -1,5 +1,5 @@
 -- A rule by its parts, as lists.
-use Rattle.std.specs.Prelude.{ℕ, List, [], ◌∷◌, map, vec_items}
+use Rattle.std.specs.Prelude.{ℕ, List, [], ◌∷◌, vec_items}
 use Rattle.grammar.specs.declared.part.Args.{Args}
 use Rattle.grammar.specs.declared.part.Args.TheVariants.{Zero, One, Two, Three}
 use Rattle.grammar.specs.declared.part.Head.{Head}

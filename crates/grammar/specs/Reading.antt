@@ -1,5 +1,5 @@
 -- Reading words from the front: what was read with the words after it, or a refusal.
-use Rattle.std.specs.Prelude.{ℕ, zero, suc, ◌+◌, ◌-◌, Bool, cond, List, [], ◌∷◌, ◌++◌, length, ◌==◌, nat_lt}
+use Rattle.std.specs.Prelude.{ℕ, zero, suc, ◌+◌, ◌-◌, cond, List, [], ◌∷◌, length, ◌==◌, nat_lt}
 use Rattle.words.specs.Words.{kind_of, payload_of, clean, name_in, count_in, label_in, signed}
 use Rattle.grammar.specs.declared.reason.Reason.{Reason}
 use Rattle.grammar.specs.declared.reason.Reason.TheVariants.{OutOfTurn, StrayBit, OutOfRange}

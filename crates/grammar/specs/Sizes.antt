@@ -1,6 +1,5 @@
 -- How many words each part of a rule is written as.
 use Rattle.std.specs.Prelude.{ℕ, ◌+◌, sum_by}
-use Rattle.grammar.specs.declared.part.Operand.{Operand}
 use Rattle.grammar.specs.declared.part.Term.{Term}
 use Rattle.grammar.specs.declared.part.Term.TheVariants.{One, Sum, Diff}
 use Rattle.grammar.specs.declared.part.Head.{Head}

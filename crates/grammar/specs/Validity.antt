@@ -1,5 +1,5 @@
 -- When a well-formed table is valid: variables bound, a taken head, rising labels.
-use Rattle.std.specs.Prelude.{◌≡◌, ℕ, suc, ◌+◌, ◌<◌, ◌≤◌, Bool, true, false, cond, not, List, [], ◌∷◌, ◌++◌, length, take, ◌==◌}
+use Rattle.std.specs.Prelude.{◌≡◌, ℕ, ◌<◌, Bool, true, false, cond, not, List, [], ◌∷◌, ◌++◌, length, take, ◌==◌}
 use Rattle.words.specs.Words.{kind_of, payload_of}
 use Rattle.grammar.specs.declared.part.Operand.{Operand}
 use Rattle.grammar.specs.declared.part.Operand.TheVariants.{Var, Const}
@@ -7,7 +7,7 @@ use Rattle.grammar.specs.declared.part.Head.{Head}
 use Rattle.grammar.specs.Parts.{listed, Parts}
 use Rattle.facts.specs.Lists.{Nth}
 use Rattle.std.specs.List.{flat_map, AllByRecursion as All}
-use Rattle.grammar.specs.Writing.{Limits, standard, Formed, heads_words, tail_words, rule_words}
+use Rattle.grammar.specs.Writing.{standard, Formed, tail_words, rule_words}
 
 abbrev pub some : {A : Type 0} → (A → Bool) → List A → Bool
 some f [] = false

@@ -1,5 +1,5 @@
 -- The words that rules are written as, and which tables are well formed.
-use Rattle.std.specs.Prelude.{◌≡◌, ℕ, ◌+◌, ◌*◌, ◌^◌, ◌<◌, ◌≤◌, List, [], ◌∷◌, ◌++◌, length, ℤ}
+use Rattle.std.specs.Prelude.{ℕ, ◌+◌, ◌*◌, ◌^◌, ◌<◌, ◌≤◌, List, [], ◌∷◌, ◌++◌, length}
 use Rattle.std.specs.List.{flat_map, AllByRecursion as All}
 use Rattle.words.specs.Words.{word, unsigned, FullRange}
 use Rattle.grammar.specs.declared.part.Operand.{Operand}

@@ -1,17 +1,15 @@
 -- What a load of words with one word more says of the kinds that are in turn after the words.
-use Rattle.std.proofs.Common.{◌≡◌, ℕ, zero, suc, ◌+◌, ◌-◌, ◌^◌, ◌<◌, ◌≤◌, Bool, true, false, not, eqb, ◌⊎◌, List, [], ◌∷◌, ◌++◌, length, take, drop, Some, None, Err, sym, refl, ap, ◌∙◌, subst, inl, inr, ⊎_elim, append_assoc, append-nil, arith, length-append, take-append-drop}
-use native.Mathlib.Decide.{dec_le}
+use Rattle.std.proofs.Common.{◌≡◌, ℕ, zero, suc, ◌+◌, ◌-◌, ◌<◌, ◌≤◌, Bool, true, false, eqb, ◌⊎◌, List, [], ◌∷◌, ◌++◌, length, take, drop, Some, Err, sym, refl, ap, ◌∙◌, subst, inl, inr, ⊎_elim, append_assoc, append-nil, arith, length-append, take-append-drop}
 use lib.Seq.{take-append_seam, take-append-le}
 use Rattle.std.proofs.lemmas.Bool.Decides.{nat_tests}
 use Rattle.std.proofs.lemmas.List.{take_all}
 use Rattle.facts.specs.Lists.{Nth}
 use Rattle.facts.proofs.Nths.{nth_within}
 use Rattle.words.specs.Words.{kind_of, word}
-use Rattle.grammar.specs.declared.reason.Reason.{Reason}
 use Rattle.grammar.specs.declared.reason.Reason.TheVariants.{OutOfTurn as TurnReason, StrayBit as BitReason, OutOfRange as RangeReason}
 use Rattle.grammar.specs.Parts.{Parts}
 use Rattle.grammar.specs.Writing.{Limits, standard, Formed, written}
-use Rattle.grammar.specs.Faults.{Begins, Holds, InTurn, Why, Stops, Faulty}
+use Rattle.grammar.specs.Faults.{Begins, Holds, InTurn, Why, Faulty}
 use Rattle.grammar.proofs.Payloads.{kind_word}
 use Rattle.rules.specs.declared.refusal.LoadFault.{LoadFault}
 use Rattle.rules.specs.declared.refusal.LoadFault.TheVariants.{OutOfTurn, StrayBit, OutOfRange, Unbound, NoTaken, Label}

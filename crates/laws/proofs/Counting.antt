@@ -1,5 +1,5 @@
 -- How often facts stand in a list, in a store and in a collection.
-use Rattle.std.proofs.Common.{◌≡◌, ℕ, zero, suc, ◌+◌, ◌-◌, ◌<◌, ◌≤◌, Bool, true, false, cond, ◌≢◌, ◌⊎◌, List, [], ◌∷◌, ◌++◌, map, length, take, drop, set, replicate, count_by, sym, refl, ap, ◌∙◌, subst, inl, inr, ⊎_elim, arith}
+use Rattle.std.proofs.Common.{◌≡◌, ℕ, zero, suc, ◌+◌, Bool, cond, ◌≢◌, List, [], ◌∷◌, ◌++◌, drop, set, replicate, count_by, refl, ap, ◌∙◌, arith}
 use Rattle.std.specs.List.{AllByRecursion as All}
 use Rattle.std.proofs.lemmas.List.Sums.{sum_by-cons, sum_by-append}
 use Rattle.facts.specs.Lists.{Nth}
@@ -9,7 +9,7 @@ use Rattle.laws.specs.Machine.{Cell, facts}
 use Rattle.laws.specs.Stored.{Held, Apart, cleared}
 use Rattle.laws.specs.Steps.{without}
 use Rattle.laws.specs.Traces.{Rewrite}
-use Rattle.laws.specs.Law.{stored, Same, Rewritten, Replay}
+use Rattle.laws.specs.Law.{stored, Same, Replay}
 use Rattle.laws.proofs.Nths.{nth_set_other}
 
 module _ {F : Type 0} (q : F → Bool) where

@@ -1,17 +1,17 @@
 -- The worked runs, by computation.
-use Rattle.std.proofs.Common.{◌≡◌, ℕ, zero, suc, ◌+◌, ◌<◌, ◌≤◌, Bool, true, false, ◌&&◌, ◌≢◌, ◌⊎◌, List, [], ◌∷◌, length, drop, replicate, pos, sym, refl, ap, ◌∙◌, subst, inl, inr, ⊎_elim, arith, lit<, lit≤}
+use Rattle.std.proofs.Common.{◌≡◌, ℕ, zero, suc, ◌<◌, true, false, ◌≢◌, List, [], ◌∷◌, length, drop, replicate, pos, sym, refl, subst, inl, inr, arith, lit<, lit≤}
 use Rattle.std.proofs.lemmas.Bool.{both_ways, and_parts}
 use Rattle.facts.specs.Lists.{Nth}
 use Rattle.facts.specs.Places.{Place, empty, held}
 use Rattle.facts.specs.Meanings.{Meaning}
 use Rattle.laws.specs.Rules.{Rules, WellFormed}
-use Rattle.laws.specs.Candidates.{Candidate, candidates, W}
-use Rattle.laws.specs.Machine.{Search, Lane, idle, searching, found, Machine, Shape, new, Call, feed, take, look, commit, Answer, Cell, facts}
-use Rattle.laws.specs.Stored.{Held, Apart}
+use Rattle.laws.specs.Candidates.{Candidate, candidates}
+use Rattle.laws.specs.Machine.{Search, Lane, idle, Machine, new, feed, take, look, commit, Cell}
+use Rattle.laws.specs.Stored.{Apart}
 use Rattle.laws.specs.Steps.{Event, refused, fed, took, looked, committed, miss, outside, match, exhausted, gone, lost, parted, rewrite, Matches, Allowed, after}
-use Rattle.laws.specs.Steps.{Refuses, list_full, too_long, take_lane, take_searching, take_found, none_waits, no_number, no_place, look_lane, look_idle, look_found, commit_lane, commit_idle, commit_searching, few_free}
+use Rattle.laws.specs.Steps.{list_full, too_long, take_lane, take_searching, take_found, none_waits, no_number, no_place, look_lane, look_idle, look_found, commit_lane, commit_idle, commit_searching, few_free}
 use Rattle.laws.specs.Traces.{Trace, Leads}
-use Rattle.laws.specs.Worked.{fill, late, is_fill, quicker, keeping, one_fill, raising, reporting, shape, f80, f84, f90, long, Removal, PartnerGone, OwnGone, Rest, Refusals, NoNumber, Raise, GoneFirst, Widths}
+use Rattle.laws.specs.Worked.{fill, is_fill, quicker, keeping, one_fill, raising, reporting, shape, f80, f84, f90, long, Removal, PartnerGone, OwnGone, Rest, Refusals, NoNumber, Raise, GoneFirst, Widths}
 use Rattle.laws.proofs.Nths.{nth_replicate}
 use Rattle.laws.proofs.Building.{unmatched, vacant, doubled}
 use Rattle.laws.proofs.Keeping.{entry_of}

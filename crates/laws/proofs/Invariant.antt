@@ -1,7 +1,6 @@
 -- What holds of a machine after each run: lanes keep count, found matches are what their looks named, and each choice
 -- to which a rule applies is guarded.
-use Rattle.std.proofs.Common.{◌≡◌, ℕ, zero, suc, ◌+◌, ◌<◌, ◌≤◌, ◌≢◌, ◌⊎◌, List, [], ◌∷◌, length, drop, set, sym, refl, ap, ◌∙◌, subst, inl, inr, ⊎_elim, arith}
-use Rattle.std.proofs.lemmas.Bool.{cases_eq}
+use Rattle.std.proofs.Common.{◌≡◌, ℕ, ◌+◌, ◌≤◌, ◌≢◌, List, length, drop, set, sym, ◌∙◌, subst, ⊎_elim, arith}
 use Rattle.facts.specs.Lists.{Nth}
 use Rattle.facts.specs.Places.{Place, held}
 use Rattle.laws.specs.Rules.{Rules, Applies}

@@ -1,7 +1,6 @@
 -- Each call keeps the invariant.
-use Rattle.std.proofs.Common.{◌≡◌, ℕ, zero, suc, ◌+◌, ◌-◌, ◌<◌, ◌≤◌, Bool, true, false, cond, eqb, ltb, ◌≢◌, ◌⊎◌, List, [], ◌∷◌, ◌++◌, length, get_or, take as front, drop, set, replicate, sym, refl, ap, ◌∙◌, subst, inl, inr, ⊎_elim, arith, lit<, lit≤, length-set}
+use Rattle.std.proofs.Common.{◌≡◌, ℕ, zero, suc, ◌+◌, ◌-◌, ◌<◌, ◌≤◌, Bool, true, false, cond, eqb, ltb, ◌≢◌, ◌⊎◌, List, [], ◌∷◌, length, get_or, take as front, drop, set, replicate, sym, refl, ap, ◌∙◌, subst, inl, inr, ⊎_elim, arith, lit<, lit≤, length-set}
 use lib.ListN.{length-replicate}
-use Rattle.std.specs.List.{AllByRecursion as All}
 use Rattle.std.proofs.lemmas.List.{drop-drop}
 use Rattle.std.proofs.lemmas.Bool.{ltb-false, both_ways}
 use Rattle.facts.specs.Lists.{Nth}
@@ -9,18 +8,18 @@ use Rattle.facts.specs.Places.{Place, empty, held}
 use Rattle.laws.specs.Rules.{Rules, WellFormed}
 use Rattle.laws.specs.Candidates.{Candidate, candidates, W}
 use Rattle.laws.specs.Machine.{Search, Lane, idle, searching, found, Machine, Shape, new, Call, feed, take, look, commit, Answer, says, Cell, numbers, facts}
-use Rattle.laws.specs.Steps.{without, Look, miss, outside, match, exhausted, gone, Commit, lost, parted, rewrite, Event, refused, fed, took, looked, committed}
-use Rattle.laws.specs.Stored.{Stands, Gone, Held, FirstMissing, cleared}
-use Rattle.laws.specs.Steps.{Matches, Next, Looks, Intact, Commits, Allowed, call_of, partners, names, look_answer, keeps_own, commit_answer, answer_of, onward, after_look, after_commit, after}
+use Rattle.laws.specs.Steps.{Look, miss, outside, match, exhausted, gone, Commit, lost, parted, rewrite, Event, refused, fed, took, looked, committed}
+use Rattle.laws.specs.Stored.{Gone, Held, FirstMissing, cleared}
+use Rattle.laws.specs.Steps.{Matches, Next, Looks, Commits, Allowed, call_of, partners, names, look_answer, keeps_own, commit_answer, answer_of, onward, after_look, after}
 use Rattle.laws.specs.Steps.{Refuses, list_full, too_long, take_lane, take_searching, take_found, none_waits, no_number, no_place, look_lane, look_idle, look_found, commit_lane, commit_idle, commit_searching, few_free}
-use Rattle.laws.specs.Traces.{Taken, none, one, Entry, Trace, entry, taken, Took, Own, since, LastMatch, named}
+use Rattle.laws.specs.Traces.{none, one, Entry, Trace, entry, taken, Took, Own, since, LastMatch, named}
 use Rattle.laws.specs.Law.{Choice}
 use Rattle.laws.proofs.Nths.{nth_same, nth_lt, nth_at, nth_set, nth_set_same, nth_replicate, nth_drop, nth_of_drop, drop_end, length_without}
 use Rattle.laws.proofs.Widths.{length_candidates}
 use Rattle.laws.proofs.Members.{candidate_in, candid, held_length}
-use Rattle.laws.proofs.Readings.{SameOf, same_feed, same_commit, same_take, same_look, same_refused, took_refused, on_other, own_same, own_here, since_take, since_look, match_here, took_held}
-use Rattle.laws.proofs.Holding.{empty_not, Later, later_same, later_put, Still, still_held, still_same, held_sub, held_at, cells_same, missing_not_held, held_cell, nth_numbers, length_numbers, held_old, length_cleared, cleared_sub, cleared_gone}
-use Rattle.laws.proofs.Guards.{changed, Busy, Guarded, Ahead, busy_idle, busy_searching, busy_found, guard_changed}
+use Rattle.laws.proofs.Readings.{same_feed, same_commit, same_take, same_look, same_refused, took_refused, on_other, own_same, own_here, since_take, since_look, match_here, took_held}
+use Rattle.laws.proofs.Holding.{Later, later_same, later_put, Still, still_held, still_same, held_sub, held_at, cells_same, missing_not_held, held_cell, nth_numbers, length_numbers, held_old, length_cleared, cleared_sub, cleared_gone}
+use Rattle.laws.proofs.Guards.{changed, Busy, Ahead, busy_idle, busy_searching, busy_found, guard_changed}
 use Rattle.laws.proofs.Invariant.{At, Keeps, Hit, Sound, Inv, sound_kept, keeps_idle, sound_number, one_lane_kept}
 
 -- at most two partners: the answer names them all

@@ -1,14 +1,14 @@
 -- A call has one outcome, but for the place and the fact of a take.
-use Rattle.std.proofs.Common.{◌≡◌, ℕ, zero, suc, ◌+◌, ◌<◌, ◌≤◌, Bool, true, false, cond, leb, ◌≢◌, ◌⊎◌, List, [], ◌∷◌, ◌++◌, length, get_or, sym, refl, ap, ◌∙◌, subst, ap₂, inl, inr, ⊎_elim, arith}
+use Rattle.std.proofs.Common.{◌≡◌, ℕ, ◌+◌, ◌<◌, ◌≤◌, Bool, true, false, cond, leb, List, [], ◌∷◌, length, get_or, sym, refl, ap, ◌∙◌, subst, ap₂, ⊎_elim, arith}
 use Rattle.std.proofs.lemmas.Bool.{le-leb, lt-leb, both_ways}
 use Rattle.facts.specs.Lists.{Nth}
-use Rattle.facts.specs.Places.{Place, empty, held}
+use Rattle.facts.specs.Places.{Place}
 use Rattle.laws.specs.Rules.{Rules}
 use Rattle.laws.specs.Candidates.{Candidate}
-use Rattle.laws.specs.Machine.{Search, Lane, idle, searching, found, Machine, Call, feed, take, look, commit, Answer, Cell, numbers, facts}
+use Rattle.laws.specs.Machine.{Search, Lane, idle, searching, found, Machine, Call, feed, take, look, commit, Cell, facts}
 use Rattle.laws.specs.Steps.{Look, miss, outside, match, exhausted, gone, Commit, lost, parted, rewrite, Event, refused, fed, took, looked, committed}
 use Rattle.laws.specs.Stored.{Stands, Gone, Held, FirstMissing}
-use Rattle.laws.specs.Steps.{Matches, Next, Looks, Intact, Commits, Allowed, call_of, answer_of, after, Step}
+use Rattle.laws.specs.Steps.{Matches, Next, Looks, Intact, Commits, Allowed, call_of, answer_of, after}
 use Rattle.laws.specs.Steps.{Refuses, list_full, too_long, take_lane, take_searching, take_found, none_waits, no_number, no_place, look_lane, look_idle, look_found, commit_lane, commit_idle, commit_searching, few_free}
 use Rattle.laws.specs.Law.{AlikeChosen, Pinned}
 use Rattle.laws.proofs.Nths.{nth_same, nth_lt, get_or_nth}

@@ -1,14 +1,14 @@
 -- The waiting and stored facts follow from the fed ones by the rewrites.
-use Rattle.std.proofs.Common.{◌≡◌, ℕ, zero, suc, ◌+◌, ◌-◌, ◌<◌, ◌≤◌, Bool, true, false, cond, eqb, List, [], ◌∷◌, ◌++◌, length, drop, set, count_by, sym, refl, ap, ◌∙◌, subst, arith}
+use Rattle.std.proofs.Common.{◌≡◌, ℕ, ◌+◌, ◌≤◌, Bool, false, cond, eqb, List, [], ◌∷◌, ◌++◌, drop, set, count_by, sym, refl, ap, ◌∙◌, subst, arith}
 use Rattle.std.proofs.lemmas.Bool.{ne_eqb}
 use Rattle.facts.specs.Lists.{Nth}
-use Rattle.facts.specs.Places.{Place, empty, held}
+use Rattle.facts.specs.Places.{Place, held}
 use Rattle.laws.specs.Rules.{Rules, WellFormed, Applies}
 use Rattle.laws.specs.Candidates.{Candidate}
-use Rattle.laws.specs.Machine.{Search, Lane, found, Machine, Call, feed, take, look, commit, Answer, says, Cell, numbers, facts}
+use Rattle.laws.specs.Machine.{Search, found, Machine, Call, feed, take, look, commit, says, Cell, numbers, facts}
 use Rattle.laws.specs.Stored.{Held, Apart, cleared}
-use Rattle.laws.specs.Steps.{without, Intact, Commit, lost, parted, rewrite, Event, refused, fed, took, looked, committed, Commits, commit_answer, partners, Allowed, answer_of, after}
-use Rattle.laws.specs.Traces.{none, Trace, entry, TookAll, insert, named, Rewrite, RewritesBy, Rewrites, feeds}
+use Rattle.laws.specs.Steps.{without, Intact, lost, parted, rewrite, Event, refused, fed, took, looked, committed, Allowed, after}
+use Rattle.laws.specs.Traces.{none, Trace, entry, TookAll, insert, Rewrite, RewritesBy, Rewrites, feeds}
 use Rattle.laws.specs.Law.{stored, collection, Same, Rewritten, Replay, Replays}
 use Rattle.laws.proofs.Nths.{insert_without}
 use Rattle.laws.proofs.Counting.{count_append, count_cons, count_push, count_without, count_put, count_cleared, held_drop, facts_drop, apart_drop, replay_same, replay_feed}

@@ -1,16 +1,16 @@
 -- The law, over all runs of a new machine.
-use Rattle.std.proofs.Common.{◌≡◌, ℕ, zero, suc, ◌+◌, ◌<◌, ◌≤◌, Bool, true, false, cond, eqb, ◌⊎◌, List, [], ◌∷◌, ◌++◌, length, count_by, sym, refl, ap, ◌∙◌, subst, inl, inr, ⊎_elim, arith}
+use Rattle.std.proofs.Common.{◌≡◌, ℕ, suc, ◌+◌, ◌<◌, ◌≤◌, true, false, eqb, List, [], ◌∷◌, length, count_by, sym, refl, ap, ◌∙◌, subst, ⊎_elim, arith}
 use Rattle.std.specs.List.{AllByRecursion as All}
 use Rattle.std.proofs.lemmas.Bool.{cases_lt, cases_Bool}
 use Rattle.std.proofs.ByRecursion.{All-weaker}
 use Rattle.facts.specs.Lists.{Nth}
-use Rattle.facts.specs.Places.{Place, empty}
+use Rattle.facts.specs.Places.{Place}
 use Rattle.laws.specs.Rules.{Rules, WellFormed}
 use Rattle.laws.specs.Candidates.{Candidate, candidates, W}
 use Rattle.laws.specs.Machine.{Lane, idle, searching, found, looks, Machine, Shape, new, Call, feed, take, look, commit, Answer, Cell, facts}
-use Rattle.laws.specs.Steps.{Event, Step, answer_of, after}
+use Rattle.laws.specs.Steps.{Step, answer_of, after}
 use Rattle.laws.specs.Traces.{Taken, Entry, Trace, entry, taken, Leads, Took, TookAll, Own, since, insert, named, Rewrite, RewritesBy, Rewrites}
-use Rattle.laws.specs.Law.{stored, collection, AtRest, Choice, Replays, Settled, Counts, Lawful, Law, Promises, Told, LabelsTell, Counted, Ordered}
+use Rattle.laws.specs.Law.{AtRest, Choice, Replays, Settled, Law, Promises, Told, LabelsTell, Counted, Ordered}
 use Rattle.laws.proofs.Nths.{nth_same}
 use Rattle.laws.proofs.Counting.{stored_new}
 use Rattle.laws.proofs.Widths.{length_candidates}
@@ -19,7 +19,7 @@ use Rattle.laws.proofs.Members.{length_facts}
 use Rattle.laws.proofs.Readings.{from_when_yes, from_when_no, own_same, match_same, took_all_same}
 use Rattle.laws.proofs.Holding.{held_place}
 use Rattle.laws.proofs.Guards.{Busy, SearchAt, Found_at}
-use Rattle.laws.proofs.Invariant.{Inv, Keeps, Sound, keeps_idle}
+use Rattle.laws.proofs.Invariant.{Inv, Sound, keeps_idle}
 use Rattle.laws.proofs.Keeping.{entry_of, inv_new, inv_step}
 use Rattle.laws.proofs.Replaying.{replays_step}
 

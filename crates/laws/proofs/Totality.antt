@@ -1,21 +1,21 @@
 -- After any run each call has an outcome.
-use Rattle.std.proofs.Common.{◌≡◌, ℕ, zero, suc, ◌+◌, ◌<◌, ◌≤◌, Bool, true, false, ◌≢◌, ◌⊎◌, List, [], ◌∷◌, ◌++◌, length, sym, refl, ap, ◌∙◌, subst, inl, inr, ⊎_elim, arith}
+use Rattle.std.proofs.Common.{◌≡◌, ℕ, zero, suc, ◌+◌, ◌<◌, ◌≤◌, true, false, ◌≢◌, ◌⊎◌, List, [], ◌∷◌, length, refl, ap, subst, inl, inr, ⊎_elim, arith}
 use Rattle.std.specs.List.{AllByRecursion as All}
 use Rattle.std.proofs.lemmas.Bool.{cases_lt, cases_eq, cases_Bool, both_ways}
 use Rattle.facts.specs.Lists.{Nth}
 use Rattle.facts.specs.Places.{Place, empty, held}
 use Rattle.laws.specs.Rules.{Rules}
 use Rattle.laws.specs.Candidates.{Candidate}
-use Rattle.laws.specs.Machine.{Search, Lane, idle, searching, found, Machine, Shape, Call, feed, take, look, commit, Cell, numbers, facts}
+use Rattle.laws.specs.Machine.{Search, Lane, idle, searching, found, Machine, Call, feed, take, look, commit, Cell, numbers, facts}
 use Rattle.laws.specs.Steps.{miss, outside, match, exhausted, gone, lost, parted, rewrite, Event, refused, fed, took, looked, committed}
 use Rattle.laws.specs.Stored.{Stands, Gone, Held, FirstMissing, Apart}
-use Rattle.laws.specs.Steps.{Matches, Next, Allowed, call_of, answer_of, after, Step}
-use Rattle.laws.specs.Steps.{Refuses, list_full, too_long, take_lane, take_searching, take_found, none_waits, no_number, no_place, look_lane, look_idle, look_found, commit_lane, commit_idle, commit_searching, few_free}
+use Rattle.laws.specs.Steps.{Matches, Next, Allowed, call_of, answer_of, after}
+use Rattle.laws.specs.Steps.{list_full, too_long, take_lane, take_searching, take_found, none_waits, no_number, no_place, look_lane, look_idle, look_found, commit_lane, commit_idle, commit_searching, few_free}
 use Rattle.laws.specs.Traces.{Trace}
 use Rattle.laws.specs.Law.{Total}
-use Rattle.laws.proofs.Nths.{nth_same, nth_at}
+use Rattle.laws.proofs.Nths.{nth_at}
 use Rattle.laws.proofs.Holding.{Still, cells_same}
-use Rattle.laws.proofs.Invariant.{Inv, Keeps, Hit}
+use Rattle.laws.proofs.Invariant.{Inv}
 use Rattle.laws.proofs.Theory.{inv}
 
 lane_cases : {X : Type 0} (xs : List X) (l : ℕ) → (length xs ≤ l) ⊎ ((x : X) × Nth xs l x)

@@ -1,12 +1,12 @@
 -- How many candidates there are: W.
-use Rattle.std.proofs.Common.{◌≡◌, ℕ, zero, suc, ◌+◌, ◌-◌, ◌*◌, ◌^◌, ◌<◌, ◌≤◌, Bool, true, false, cond, List, [], ◌∷◌, ◌++◌, map, length, sum_by, sym, refl, ap, ◌∙◌, subst, arith, length-append}
+use Rattle.std.proofs.Common.{◌≡◌, ℕ, zero, suc, ◌+◌, ◌-◌, ◌*◌, ◌^◌, ◌<◌, Bool, true, false, cond, List, [], ◌∷◌, map, length, sum_by, sym, refl, ap, ◌∙◌, arith, length-append}
 use native.Mathlib.Nat.{pow-zero, pow-succ'}
 use lib.ListN.{length-map}
 use Rattle.std.specs.List.{flat_map, range_with_len}
 use Rattle.std.proofs.lemmas.List.Sums.{sum_by-cons}
 use Rattle.std.proofs.lemmas.List.FromFn.{length-range_with_len}
 use Rattle.laws.specs.Rules.{Rules}
-use Rattle.laws.specs.Candidates.{Candidate, tuples, ways, at_position, of_rule, candidates, W}
+use Rattle.laws.specs.Candidates.{tuples, ways, at_position, of_rule, candidates, W}
 
 length_joined : {X Y : Type 0} (f : X → List Y) (xs : List X) → length (flat_map f xs) ≡ sum_by (λ (x : X). length (f x)) xs
 length_joined f [] = refl

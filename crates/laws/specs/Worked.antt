@@ -1,8 +1,8 @@
 -- Worked runs: three small tables, and what a machine answers under them.
 use Rattle.std.specs.Prelude.{◌≡◌, ℕ, Bool, true, false, ◌&&◌, List, [], ◌∷◌, reverse, drop, ℤ, pos, ◌+ℤ◌, ◌==◌, int_le, nat_le, slice_index_or}
 use Rattle.facts.specs.Meanings.{Meaning}
-use Rattle.facts.specs.Places.{Place, empty, held}
-use Rattle.laws.specs.Rules.{Rules, WellFormed}
+use Rattle.facts.specs.Places.{empty, held}
+use Rattle.laws.specs.Rules.{Rules}
 use Rattle.laws.specs.Candidates.{W}
 use Rattle.laws.specs.Machine.{Machine, Shape, new, Call, feed, take, look, commit, says}
 use Rattle.laws.specs.Traces.{Entry, entry, none, one, Leads}

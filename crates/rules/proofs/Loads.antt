@@ -1,12 +1,11 @@
 -- What was read is what the loader promises.
-use Rattle.std.proofs.Common.{◌≡◌, ℕ, zero, suc, ◌+◌, ◌-◌, ◌<◌, ◌≤◌, true, false, List, [], ◌∷◌, ◌++◌, length, take, Err, sym, refl, ap, ◌∙◌, subst, arith, length-append}
-use Rattle.std.specs.List.{AllByRecursion as All}
+use Rattle.std.proofs.Common.{◌≡◌, ℕ, zero, suc, ◌-◌, ◌<◌, ◌≤◌, false, List, [], ◌∷◌, ◌++◌, length, take, Err, sym, ap, ◌∙◌, subst, arith, length-append}
 use Rattle.facts.specs.Lists.{Nth}
 use Rattle.grammar.specs.declared.reason.Reason.{Reason}
 use Rattle.grammar.specs.declared.reason.Reason.TheVariants.{OutOfTurn as TurnReason, StrayBit as BitReason, OutOfRange as RangeReason}
 use Rattle.grammar.specs.Parts.{Parts}
 use Rattle.grammar.specs.Writing.{standard, Formed, tail_words, written}
-use Rattle.grammar.specs.Reading.{Parsed, ok, no, read_table}
+use Rattle.grammar.specs.Reading.{ok, no, read_table}
 use Rattle.grammar.specs.Faults.{Faulty}
 use Rattle.grammar.specs.Validity.{free, Sound, Rising, Valid, last_label}
 use Rattle.grammar.proofs.Codec.{table_all, table_only}
@@ -19,7 +18,7 @@ use Rattle.rules.specs.declared.refusal.LoadError.TheVariants.{Refused as Refusi
 use Rattle.rules.specs.declared.fault.ReadError.{ReadError}
 use Rattle.rules.specs.declared.fault.ReadError.TheVariants.{Word, Memory as NoMemory}
 use Rattle.rules.specs.Progress.{Refused}
-use Rattle.rules.specs.Loading.{fault_of, Unsound, Wrong, Told, Loads, Accepts}
+use Rattle.rules.specs.Loading.{fault_of, Wrong, Told, Loads, Accepts}
 use Rattle.facts.proofs.Nths.{all_nth}
 
 wrong_word : (ws : List ℕ) (place : ℕ) (r : Reason) → Faulty ws place r → Wrong ws (fault_of r) place

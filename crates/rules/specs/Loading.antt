@@ -8,7 +8,6 @@ use Rattle.grammar.specs.Faults.{Faulty, rule_words_to}
 use Rattle.grammar.specs.Validity.{Valid}
 use Rattle.rules.specs.declared.refusal.LoadFault.{LoadFault}
 use Rattle.rules.specs.declared.refusal.LoadFault.TheVariants.{OutOfTurn, StrayBit, OutOfRange, Unbound, NoTaken, Label}
-use Rattle.rules.specs.declared.refusal.Refusal.{Refusal}
 use Rattle.rules.specs.declared.refusal.LoadError.{LoadError}
 use Rattle.rules.specs.declared.refusal.LoadError.TheVariants.{Refused, Memory}
 use Rattle.rules.specs.declared.fault.ReadError.{ReadError}

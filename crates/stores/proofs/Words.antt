@@ -1,8 +1,7 @@
 -- What five words hold.
-use Rattle.std.proofs.Common.{◌≡◌, ℕ, zero, suc, ◌+◌, ◌*◌, ◌/◌, ◌%◌, ◌<◌, ◌≤◌, min, cond, List, [], ◌∷◌, take, ℤ, pos, ◌+ℤ◌, ◌≤ℤ◌, refl, ap, ◌∙◌, arith, ne_eqb}
+use Rattle.std.proofs.Common.{◌≡◌, ℕ, zero, suc, ◌+◌, ◌*◌, ◌/◌, ◌%◌, ◌<◌, ◌≤◌, min, cond, [], ◌∷◌, take, ℤ, pos, ◌+ℤ◌, ◌≤ℤ◌, refl, ap, arith, ne_eqb}
 use Rattle.std.proofs.lemmas.Int.{ints, clamps}
-use Rattle.facts.specs.Meanings.{Meaning}
-use Rattle.facts.specs.Places.{Place, empty, held}
+use Rattle.facts.specs.Places.{empty, held}
 use Rattle.stores.specs.Cells.{under, word_value, words_meaning}
 
 -- a number above 0 holds its fact

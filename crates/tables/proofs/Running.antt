@@ -1,7 +1,6 @@
 -- The sample table is valid, and its run is a run, by computation.
-use Rattle.std.proofs.Common.{◌≡◌, ℕ, ◌≤◌, List, [], ◌∷◌, drop, refl, arith, lit<, lit≤}
+use Rattle.std.proofs.Common.{◌≡◌, ℕ, List, [], ◌∷◌, drop, refl, arith, lit<, lit≤}
 use Rattle.facts.specs.Meanings.{Meaning}
-use Rattle.facts.specs.Places.{Place, empty, held}
 use Rattle.grammar.specs.Parts.{Parts}
 use Rattle.grammar.specs.Validity.{Valid}
 use Rattle.laws.specs.Candidates.{Candidate, candidates}

@@ -1,15 +1,12 @@
 -- A valid table has what the law asks of rules.
-use Rattle.std.proofs.Common.{◌≡◌, ℕ, zero, suc, ◌+◌, ◌<◌, ◌≤◌, List, [], ◌∷◌, ◌++◌, length, ℤ, sym, refl, ap, subst, arith, length-append}
-use Rattle.std.specs.List.{AllByRecursion as All}
+use Rattle.std.proofs.Common.{◌≡◌, ℕ, zero, suc, ◌<◌, List, [], ◌∷◌, refl, ap, subst, arith, length-append}
 use Rattle.facts.specs.Lists.{Nth}
 use Rattle.facts.proofs.Nths.{all_nth}
 use Rattle.grammar.specs.Parts.{Parts}
-use Rattle.grammar.specs.Validity.{Sound, Rising, Valid}
+use Rattle.grammar.specs.Validity.{Sound, Rising}
 use Rattle.grammar.specs.Writing.{standard, FormedRule}
-use Rattle.matching.specs.Applying.{heads}
 use Rattle.matching.proofs.Laws.{matches_length, matches_fits, some_taken}
-use Rattle.laws.specs.Rules.{Rules, WellFormed}
-use Rattle.tables.specs.Loaded.{rule_table, TablesServe}
+use Rattle.tables.specs.Loaded.{TablesServe}
 
 above : (n : ℕ) (rs : List Parts) → Rising n rs → (i : ℕ) (r : Parts) → Nth rs i r → n < r.label
 above n [] h i r k = absurd k

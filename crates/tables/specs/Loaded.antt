@@ -1,5 +1,5 @@
 -- Loaded rule tables under the law over runs.
-use Rattle.std.specs.Prelude.{ℕ, List, length, ℤ, nat_le}
+use Rattle.std.specs.Prelude.{List, length, ℤ, nat_le}
 use Rattle.facts.specs.Meanings.{Meaning}
 use Rattle.grammar.specs.Parts.{Parts}
 use Rattle.grammar.specs.Validity.{Valid}

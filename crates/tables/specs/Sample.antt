@@ -1,7 +1,7 @@
 -- The sample table, and a run over it.
-use Rattle.std.specs.Prelude.{◌≡◌, ℕ, List, [], ◌∷◌, reverse, ℤ, pos, negsuc}
+use Rattle.std.specs.Prelude.{◌≡◌, ℕ, [], ◌∷◌, reverse, pos, negsuc}
 use Rattle.facts.specs.Meanings.{Meaning}
-use Rattle.facts.specs.Places.{Place, empty, held}
+use Rattle.facts.specs.Places.{empty, held}
 use Rattle.grammar.specs.declared.part.Operand.TheVariants.{Var}
 use Rattle.grammar.specs.declared.part.Term.TheVariants.{One}
 use Rattle.grammar.specs.declared.part.Test.TheVariants.{AtMost}
@@ -9,7 +9,6 @@ use Rattle.grammar.specs.declared.part.Args.TheVariants.{Two}
 use Rattle.grammar.specs.declared.part.Head.{Head}
 use Rattle.grammar.specs.Parts.{Parts}
 use Rattle.grammar.specs.Writing.{written}
-use Rattle.grammar.specs.Validity.{Valid}
 use Rattle.laws.specs.Rules.{Rules}
 use Rattle.laws.specs.Candidates.{W}
 use Rattle.laws.specs.Machine.{Machine, new, feed, look, commit}

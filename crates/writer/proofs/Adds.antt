@@ -1,5 +1,5 @@
 -- A part whose words were put behind the words so far.
-use Rattle.std.proofs.Common.{◌≡◌, ℕ, ◌+◌, List, length, sym, refl, ap, ◌∙◌, subst}
+use Rattle.std.proofs.Common.{◌≡◌, ℕ, ◌+◌, List, length, ap, ◌∙◌, subst}
 use Rattle.writer.specs.Memory.{placed}
 use Rattle.writer.specs.Refusals.{Room, Wrote}
 

@@ -1,8 +1,8 @@
 -- A variable more among the bits.
-use Rattle.std.proofs.Common.{◌≡◌, ℕ, zero, suc, ◌+◌, ◌-◌, ◌*◌, ◌/◌, ◌%◌, ◌^◌, ◌<◌, ◌≤◌, Bool, true, false, cond, eqb, ◌⊎◌, List, [], ◌∷◌, ◌++◌, sym, refl, ap, ◌∙◌, ap₂, inl, inr, ⊎_elim, one-mul, arith}
+use Rattle.std.proofs.Common.{◌≡◌, ℕ, zero, suc, ◌+◌, ◌-◌, ◌*◌, ◌/◌, ◌%◌, ◌^◌, ◌<◌, ◌≤◌, Bool, true, false, cond, eqb, ◌⊎◌, List, [], ◌∷◌, sym, refl, ap, ◌∙◌, inl, inr, ⊎_elim, one-mul, arith}
 use native.Mathlib.Nat.{div-eq_of_lt, pow-le-pow_right, pow-succ'}
 use lib.Bits.{bit_or, or_zero_r}
-use Rattle.std.proofs.lemmas.Nat.{or_shr, or_mod, pow-add, pow_below, shl-shr, pow_pos}
+use Rattle.std.proofs.lemmas.Nat.{or_shr, or_mod, pow-add, pow_below, shl-shr}
 use Rattle.std.proofs.lemmas.Bool.Decides.{nat_tests}
 use Rattle.std.proofs.lemmas.Bool.{cases_order, eq-eqb, ne_eqb}
 use Rattle.grammar.specs.declared.part.Operand.{Operand}

@@ -1,23 +1,23 @@
 -- Rules begun and closed, and the table ended.
-use Rattle.std.proofs.Common.{◌≡◌, ℕ, suc, ◌+◌, ◌/◌, ◌%◌, ◌^◌, ◌<◌, ◌≤◌, Bool, true, false, eqb, List, [], ◌∷◌, ◌++◌, length, take, drop, sym, refl, ap, ◌∙◌, subst, ap₂, arith}
+use Rattle.std.proofs.Common.{◌≡◌, ℕ, ◌+◌, ◌%◌, ◌^◌, ◌<◌, false, eqb, List, [], ◌∷◌, ◌++◌, take, drop, sym, refl, ap, ◌∙◌, subst, ap₂, arith}
 use native.Mathlib.Nat.{div-eq_of_lt}
-use Rattle.std.specs.List.{flat_map, AllByRecursion as All}
-use Rattle.std.proofs.lemmas.List.{append_assoc, length-append, length_push}
+use Rattle.std.specs.List.{flat_map}
+use Rattle.std.proofs.lemmas.List.{append_assoc, length_push}
 use Rattle.std.proofs.lemmas.Nat.{pow_pos}
 use Rattle.std.proofs.ByRecursion.{All-push}
 use Rattle.words.specs.Words.{word}
 use Rattle.grammar.specs.Parts.{Parts}
-use Rattle.grammar.specs.Reading.{ok, read_table}
-use Rattle.grammar.specs.Writing.{standard, FormedRule, Formed, rule_words, written}
+use Rattle.grammar.specs.Reading.{read_table}
+use Rattle.grammar.specs.Writing.{standard, FormedRule, rule_words, written}
 use Rattle.grammar.specs.Validity.{Sound, Rising, Valid, last_label}
 use Rattle.grammar.proofs.Codec.{table_all}
 use Rattle.writer.specs.declared.tally.Tally.{Tally}
 use Rattle.writer.specs.declared.table.TableWriter.{TableWriter}
 use Rattle.writer.specs.Memory.{placed}
-use Rattle.writer.specs.Refusals.{Room, Wrote}
+use Rattle.writer.specs.Refusals.{Wrote}
 use Rattle.writer.specs.Variables.{has}
 use Rattle.writer.specs.Tallies.{begun}
-use Rattle.writer.specs.Tables.{Front, Tabled, Opened, IsBegun, IsFilling, closed_table, labelled, Ended}
+use Rattle.writer.specs.Tables.{Front, Tabled, Opened, IsFilling, closed_table, labelled, Ended}
 use Rattle.writer.proofs.Grows.{joined_push, front_on}
 
 rising_push : (n : ℕ) (rs : List Parts) (r : Parts) → Rising n rs → last_label n rs < r.label → Rising n (rs ++ r ∷ [])

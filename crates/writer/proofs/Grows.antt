@@ -1,5 +1,5 @@
 -- What the words so far are the writing of, after a part more.
-use Rattle.std.proofs.Common.{◌≡◌, ℕ, suc, ◌+◌, ◌<◌, ◌≤◌, Bool, true, false, cond, not, eqb, List, [], ◌∷◌, ◌++◌, length, take, sym, refl, ap, ◌∙◌, subst, ap₂, arith}
+use Rattle.std.proofs.Common.{◌≡◌, ℕ, ◌+◌, Bool, true, false, cond, not, eqb, List, [], ◌∷◌, ◌++◌, length, take, sym, refl, ap, ◌∙◌, subst, ap₂, arith}
 use Rattle.std.specs.List.{flat_map, AllByRecursion as All}
 use Rattle.std.proofs.lemmas.List.{append-nil, append_assoc, length-append, length_push, flat_map_more}
 use Rattle.std.proofs.ByRecursion.{All-append, All-push, All-weaker}
@@ -11,7 +11,7 @@ use Rattle.grammar.specs.Parts.{Parts}
 use Rattle.grammar.specs.Writing.{head_words, guard_words, body_words, heads_words, tail_words, rule_words}
 use Rattle.grammar.specs.Sizes.{head_size, guard_size, body_size}
 use Rattle.grammar.proofs.Sizes.{head_length, guard_length, body_length}
-use Rattle.grammar.specs.Validity.{some, head_has, binds, free, Bound}
+use Rattle.grammar.specs.Validity.{some, head_has, binds, free}
 use Rattle.writer.specs.declared.tally.Tally.{Tally}
 use Rattle.writer.specs.Memory.{placed}
 use Rattle.writer.specs.Refusals.{Room, Wrote}

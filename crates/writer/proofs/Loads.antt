@@ -1,5 +1,5 @@
 -- The rules of a loaded table, as they are written.
-use Rattle.std.proofs.Common.{◌≡◌, ℕ, ◌+◌, ◌<◌, ◌≤◌, List, [], ◌∷◌, ◌++◌, map, length, drop, set, sym, refl, ap, ◌∙◌, subst, arith}
+use Rattle.std.proofs.Common.{◌≡◌, ℕ, ◌+◌, ◌<◌, ◌≤◌, List, [], ◌∷◌, ◌++◌, map, length, drop, set, sym, ap, ◌∙◌, subst, arith}
 use Rattle.std.specs.List.{flat_map, AllByRecursion as All}
 use Rattle.std.proofs.lemmas.List.{length-map, length_push}
 use Rattle.words.specs.Words.{word}
@@ -7,7 +7,6 @@ use Rattle.grammar.specs.declared.rule.Rule.{Rule}
 use Rattle.grammar.specs.Parts.{Parts, parts}
 use Rattle.grammar.specs.Writing.{standard, FormedRule, rule_words, written}
 use Rattle.grammar.specs.Validity.{Valid}
-use Rattle.writer.specs.Memory.{placed}
 use Rattle.writer.specs.Tables.{words_of, FormedRuleOf}
 use Rattle.writer.proofs.Places.{Puts, placed_push}
 use Rattle.writer.proofs.Rows.{joined_map}

@@ -1,5 +1,5 @@
 -- Words put into the caller's memory.
-use Rattle.std.specs.Prelude.{ℕ, ◌+◌, List, [], ◌∷◌, ◌++◌, length, take, drop}
+use Rattle.std.specs.Prelude.{ℕ, ◌+◌, List, ◌∷◌, ◌++◌, length, take, drop}
 use Rattle.std.specs.List.{flat_map}
 use Rattle.grammar.specs.Parts.{listed}
 use Rattle.writer.specs.declared.code.Code.{Code}

@@ -1,5 +1,5 @@
 -- What the words so far are the writing of.
-use Rattle.std.specs.Prelude.{◌≡◌, ℕ, ◌+◌, ◌^◌, ◌<◌, ◌≤◌, Bool, List, [], ◌∷◌, ◌++◌, length, take, drop}
+use Rattle.std.specs.Prelude.{◌≡◌, ℕ, ◌+◌, ◌^◌, ◌<◌, ◌≤◌, List, [], ◌∷◌, ◌++◌, length, take, drop}
 use Rattle.std.specs.List.{flat_map, AllByRecursion as All}
 use Rattle.grammar.specs.declared.part.Head.{Head}
 use Rattle.grammar.specs.declared.part.Guard.{Guard}

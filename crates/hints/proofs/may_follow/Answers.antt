@@ -1,4 +1,4 @@
-use Rattle.std.proofs.Common.{◌≡◌, ℕ, ◌*◌, List, [], ◌∷◌, ◌++◌, sym, ap, ◌∙◌, ap₂, arith, rules}
+use Rattle.std.proofs.Common.{◌≡◌, ℕ, ◌*◌, List, [], ◌∷◌, ◌++◌, ◌∙◌, ap₂, arith, rules}
 use Rattle.words.specs.Words.{tag, word}
 use Rattle.hints.proofs.Turns.{accepted, told}
 use Rattle.hints.proofs.may_follow.Goals as goal

@@ -1,6 +1,6 @@
-use Rattle.std.proofs.Common.{◌≡◌, ℕ, ◌+◌, ◌*◌, List, [], ◌∷◌, ◌++◌, vec_items, sym, ap, ◌∙◌, arith}
+use Rattle.std.proofs.Common.{ℕ, List, [], ◌∷◌, ◌++◌, sym, ap, ◌∙◌, arith}
 use Rattle.std.proofs.lemmas.List.FromFn.{map-range_with_len_more}
-use Rattle.input.specs.Bytes.{word_at, words_in}
+use Rattle.input.specs.Bytes.{word_at}
 use Rattle.input.proofs.words_of.Goals as goal
 
 pub loop-i-preserved : goal.loop-i-preserved

@@ -1,8 +1,8 @@
-use Rattle.std.proofs.Common.{◌≡◌, ℕ, ◌/◌, min, List, ◌++◌, length, IfOk, vec_items, string_bytes, codes, sym, ap, ◌∙◌, subst, arith, rules}
+use Rattle.std.proofs.Common.{◌≡◌, ℕ, ◌/◌, min, List, ◌++◌, length, IfOk, string_bytes, codes, ap, ◌∙◌, subst, arith, rules}
 use Rattle.std.proofs.lemmas.Result.{IfOk-weaker}
 use Rattle.input.specs.Bytes.{words_in}
 use Rattle.rules.specs.Loading.{Loads, Accepts}
-use Rattle.answers.specs.Answers.{Answer, load_line}
+use Rattle.answers.specs.Answers.{load_line}
 use Rattle.listing.specs.Reports.{Reports}
 use Rattle.listing.proofs.report.report_on.Goals as goal
 

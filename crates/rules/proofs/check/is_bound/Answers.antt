@@ -1,4 +1,4 @@
-use Rattle.std.proofs.Common.{◌≡◌, true, cond, vec_items, sym, ◌∙◌}
+use Rattle.std.proofs.Common.{◌≡◌, true, vec_items, sym, ◌∙◌}
 use Rattle.grammar.specs.Validity.{some, head_has}
 use Rattle.rules.proofs.Somes.{some_append}
 use Rattle.rules.proofs.check.is_bound.Goals as goal

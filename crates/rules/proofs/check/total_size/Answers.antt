@@ -1,4 +1,4 @@
-use Rattle.std.proofs.Common.{◌≡◌, ℕ, ◌+◌, ◌≤◌, length, vec_items, sym, ◌∙◌, ap₂, arith}
+use Rattle.std.proofs.Common.{ℕ, ◌+◌, vec_items, sym, ◌∙◌, ap₂, arith}
 use Rattle.rules.proofs.Somes.{sum_more, sum_all}
 use Rattle.rules.proofs.check.total_size.Goals as goal
 

@@ -1,7 +1,7 @@
-use Rattle.std.proofs.Common.{◌≡◌, ℕ, ◌+◌, ◌≤◌, Bool, true, false, cond, eqb, get_or, take, count_by, sym, ap, ◌∙◌, arith}
+use Rattle.std.proofs.Common.{◌≡◌, ℕ, Bool, true, false, cond, eqb, get_or, count_by, sym, ap, ◌∙◌, arith}
 use Rattle.std.proofs.lemmas.List.{take_all}
 use Rattle.std.proofs.lemmas.List.Sums.{sum_by_more}
-use Rattle.words.specs.Words.{tag, kind_of}
+use Rattle.words.specs.Words.{kind_of}
 use Rattle.rules.proofs.loader.count_rules.Goals as goal
 use Rattle.rules.proofs.loader.count_rules.Goals.{then-is, else-is}
 

@@ -1,6 +1,6 @@
-use Rattle.std.proofs.Common.{◌≡◌, ℕ, ◌-◌, List, map, length, vec_items, sym, refl, ap, ◌∙◌, subst, arith}
+use Rattle.std.proofs.Common.{◌≡◌, ℕ, map, length, vec_items, sym, ap, ◌∙◌, subst}
 use Rattle.grammar.specs.Parts.{parts}
-use Rattle.grammar.specs.Reading.{Parsed, ok, no, read_table}
+use Rattle.grammar.specs.Reading.{ok, read_table}
 use Rattle.grammar.specs.Writing.{standard, written}
 use Rattle.grammar.specs.Faults.{rule_words_to}
 use Rattle.rules.specs.Loading.{Wrong}

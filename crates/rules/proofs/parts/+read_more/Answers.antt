@@ -1,7 +1,7 @@
-use Rattle.std.proofs.Common.{◌≡◌, ℕ, ◌-◌, ◌<◌, true, false, eqb, List, [], ◌∷◌, ◌++◌, vec_items, sym, refl, ap, ◌∙◌, subst, arith, rules}
+use Rattle.std.proofs.Common.{◌≡◌, ℕ, ◌-◌, ◌<◌, true, false, eqb, vec_items, sym, ap, ◌∙◌, subst, arith, rules}
 use Rattle.std.proofs.lemmas.Result.{MatchResult-weaker}
-use Rattle.words.specs.Words.{tag, kind_of, payload_of, clean}
-use Rattle.grammar.specs.Reading.{Parsed, ok, read_parts}
+use Rattle.words.specs.Words.{tag, kind_of, clean}
+use Rattle.grammar.specs.Reading.{ok, read_parts}
 use Rattle.rules.specs.Progress.{front, Refused}
 use Rattle.rules.proofs.Steps.{parts_stop, parts_more}
 use Rattle.rules.proofs.parts.+read_more.Goals as goal

@@ -1,4 +1,4 @@
-use Rattle.std.proofs.Common.{◌≡◌, ◌+◌, List, map, get_or, take, sym, ap, ◌∙◌, arith}
+use Rattle.std.proofs.Common.{◌≡◌, ◌+◌, List, map, take, ap, ◌∙◌, arith}
 use Rattle.std.proofs.lemmas.List.{take_all, map_more}
 use Rattle.stores.specs.Stores.{empties}
 use Rattle.stores.proofs.Places.{empties_empty, empties_full, numbered_empty, numbered_full}

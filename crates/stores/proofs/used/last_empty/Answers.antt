@@ -1,7 +1,6 @@
-use Rattle.std.proofs.Common.{◌-◌, ◌<◌, length, arith}
-use Rattle.facts.specs.Places.{empty}
+use Rattle.std.proofs.Common.{◌-◌, length, arith}
 use Rattle.stores.specs.Cells.{places_of}
-use Rattle.stores.proofs.Places.{nth_in, used_nth, used_length, nth_full, nth_empty, filled_less}
+use Rattle.stores.proofs.Places.{used_nth, used_length, nth_full, nth_empty, filled_less}
 use Rattle.stores.proofs.used.last_empty.Goals as goal
 
 pub loop-place-init : goal.loop-place-init

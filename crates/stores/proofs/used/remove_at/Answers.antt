@@ -1,8 +1,6 @@
-use Rattle.std.proofs.Common.{◌≡◌, ◌<◌, ◌≤◌, length, set, sym, refl, ap, ◌∙◌, subst, ⊎_elim, arith}
+use Rattle.std.proofs.Common.{◌<◌, set, refl, ap, ◌∙◌, ⊎_elim, arith}
 use Rattle.std.proofs.lemmas.List.{drop-set-lt}
-use Rattle.facts.specs.Lists.{Nth}
-use Rattle.facts.specs.Meanings.{Meaning}
-use Rattle.facts.specs.Places.{Place, held}
+use Rattle.facts.specs.Places.{held}
 use Rattle.stores.specs.Cells.{places_of, Numbered}
 use Rattle.stores.proofs.Places.{places_in, places_nth, places_set, nth_other, nth_held}
 use Rattle.stores.proofs.used.remove_at.Goals as goal

@@ -1,4 +1,4 @@
-use Rattle.std.proofs.Common.{◌≡◌, ◌-◌, length, take, arith, length-take}
+use Rattle.std.proofs.Common.{◌-◌, arith, length-take}
 use Rattle.stores.proofs.Places.{take_used}
 use Rattle.stores.proofs.used.used.Goals as goal
 

@@ -1,7 +1,7 @@
-use Rattle.std.proofs.Common.{◌≡◌, ℕ, ◌+◌, ◌/◌, ◌%◌, ◌^◌, ◌<◌, ◌≤◌, Bool, true, false, cond, not, eqb, ltb, sym, refl, ap, ◌∙◌, ap₂, arith}
+use Rattle.std.proofs.Common.{◌≡◌, ℕ, ◌/◌, ◌%◌, ◌^◌, Bool, true, false, cond, not, eqb, ltb, sym, ap, ◌∙◌, arith}
 use Rattle.std.proofs.lemmas.Bool.Decides.{nat_tests}
 use Rattle.std.proofs.lemmas.Bool.{lt-ltb}
-use Rattle.words.specs.Words.{tag, kind_of, payload_of}
+use Rattle.words.specs.Words.{kind_of, payload_of}
 use Rattle.writer.specs.Variables.{has, free_of}
 use Rattle.writer.proofs.Bits.{has_past}
 use Rattle.writer.proofs.put.is_free.Goals as goal

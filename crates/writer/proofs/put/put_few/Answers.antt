@@ -1,4 +1,4 @@
-use Rattle.std.proofs.Common.{◌≡◌, ℕ, ◌+◌, ◌<◌, ◌≤◌, List, [], ◌∷◌, length, set, sym, ◌∙◌, subst, arith, length-set}
+use Rattle.std.proofs.Common.{◌≡◌, ℕ, ◌+◌, ◌≤◌, List, [], ◌∷◌, length, set, sym, ◌∙◌, subst, arith, length-set}
 use Rattle.grammar.specs.declared.part.Args.{Args}
 use Rattle.grammar.specs.declared.part.Args.TheVariants.{Zero, One, Two, Three}
 use Rattle.grammar.specs.Parts.{listed}

@@ -1,5 +1,5 @@
-use Rattle.std.proofs.Common.{◌≡◌, ℕ, ◌+◌, ◌<◌, ◌≤◌, length, drop, vec_items, vec_len, sym, ap, ◌∙◌, arith, rules}
-use mathlib.Core.Logic.{∥∥₁_map, ∥∥₁_elim}
+use Rattle.std.proofs.Common.{◌≡◌, ◌+◌, ◌<◌, ◌≤◌, length, drop, vec_items, sym, ◌∙◌, arith, rules}
+use mathlib.Core.Logic.{∥∥₁_map}
 use Rattle.std.specs.List.{flat_map, AllByRecursion as All}
 use Rattle.writer.specs.Tables.{words_of, FormedRuleOf}
 use Rattle.writer.proofs.Rows.{puts_end, all_here, all_next, room_here, room_next, puts_next}

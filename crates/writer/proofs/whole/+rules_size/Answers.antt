@@ -1,6 +1,6 @@
-use Rattle.std.proofs.Common.{◌≡◌, ℕ, ◌+◌, ◌<◌, ◌≤◌, length, drop, vec_items, vec_len, sym, ap, ◌∙◌, arith, rules}
-use mathlib.Core.Logic.{∥∥₁_map, ∥∥₁_elim}
-use Rattle.std.specs.List.{flat_map, AllByRecursion as All}
+use Rattle.std.proofs.Common.{◌≡◌, ◌+◌, ◌<◌, length, drop, vec_items, sym, ap, ◌∙◌, arith, rules}
+use mathlib.Core.Logic.{∥∥₁_map}
+use Rattle.std.specs.List.{AllByRecursion as All}
 use Rattle.writer.specs.Tables.{words_of, FormedRuleOf}
 use Rattle.writer.proofs.Rows.{none_left, all_here, all_next, size_more}
 use Rattle.writer.proofs.whole.+rules_size.Goals as goal

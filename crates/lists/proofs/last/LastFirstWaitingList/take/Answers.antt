@@ -1,7 +1,7 @@
-use Rattle.std.proofs.Common.{◌≡◌, ◌-◌, ◌<◌, ◌≤◌, min, List, [], ◌∷◌, ◌++◌, map, length, get_or, take, sym, refl, ap, ◌∙◌, arith, length-take, rules}
+use Rattle.std.proofs.Common.{◌≡◌, ◌-◌, ◌<◌, ◌≤◌, min, [], ◌∷◌, ◌++◌, map, length, take, sym, refl, ap, ◌∙◌, arith, length-take, rules}
 use Rattle.std.proofs.lemmas.List.{get_or-take}
 use Rattle.facts.specs.declared.fact.Fact.{Fact}
-use Rattle.facts.specs.Meanings.{Meaning, meaning}
+use Rattle.facts.specs.Meanings.{meaning}
 use Rattle.facts.specs.Reads.{cut}
 use Rattle.lists.specs.Built.{kept, used, last_waiting}
 use Rattle.lists.proofs.Fronts.{front_length, front_last, gives_last}

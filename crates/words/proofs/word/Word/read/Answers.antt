@@ -1,5 +1,5 @@
 -- The entry of KINDS at a number has that number.
-use Rattle.std.proofs.Common.{◌≡◌, ℕ, ◌/◌, ◌^◌, ◌<◌, List, [], ◌∷◌, sym, ◌∙◌, zero-add, arith}
+use Rattle.std.proofs.Common.{◌/◌, ◌^◌, ◌<◌, List, [], ◌∷◌, sym, ◌∙◌, zero-add, arith}
 use Rattle.std.proofs.lemmas.Nat.{and_mask}
 use Rattle.std.proofs.lemmas.List.{get_or-map}
 use Rattle.std.proofs.lemmas.List.FromFn.{get_or-range_with_len}

@@ -1,7 +1,7 @@
-use Rattle.std.proofs.Common.{◌+◌, List, [], ◌∷◌, set, arith}
+use Rattle.std.proofs.Common.{◌+◌, [], ◌∷◌, set, arith}
 use Rattle.std.specs.List.{flat_map}
 use Rattle.grammar.specs.Parts.{listed}
-use Rattle.writer.proofs.Places.{Puts, puts_one, puts_more}
+use Rattle.writer.proofs.Places.{puts_one, puts_more}
 use Rattle.writer.proofs.code.Code.put.Goals as goal
 
 pub returns : goal.returns

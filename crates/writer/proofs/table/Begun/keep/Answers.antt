@@ -1,4 +1,4 @@
-use Rattle.std.proofs.Common.{◌≡◌, sym, refl, subst}
+use Rattle.std.proofs.Common.{sym, refl, subst}
 use Rattle.writer.specs.declared.tally.Tally.{Tally}
 use Rattle.writer.specs.Tables.{Opened, IsBegun, with_kept}
 use Rattle.writer.proofs.Grows.{kept_more}

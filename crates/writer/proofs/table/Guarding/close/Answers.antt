@@ -1,4 +1,4 @@
-use Rattle.std.proofs.Common.{◌≡◌, [], ◌∷◌, ◌++◌, sym, refl, subst}
+use Rattle.std.proofs.Common.{[], ◌∷◌, ◌++◌, sym, refl, subst}
 use Rattle.writer.specs.declared.table.TableWriter.{TableWriter}
 use Rattle.writer.specs.Tables.{Tabled}
 use Rattle.writer.proofs.Ends.{rule_closed}

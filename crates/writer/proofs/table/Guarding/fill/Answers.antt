@@ -1,4 +1,4 @@
-use Rattle.std.proofs.Common.{◌≡◌, sym, refl, subst}
+use Rattle.std.proofs.Common.{sym, refl, subst}
 use Rattle.writer.specs.declared.tally.Tally.{Tally}
 use Rattle.writer.specs.Tables.{Opened, IsFilling, with_body}
 use Rattle.writer.proofs.Grows.{body_more}

@@ -1,9 +1,9 @@
-use Rattle.std.proofs.Common.{◌≡◌, ℕ, ◌+◌, ◌^◌, ◌<◌, List, [], ◌∷◌, sym, refl, ap, subst, arith}
+use Rattle.std.proofs.Common.{◌≡◌, ℕ, ◌+◌, ◌<◌, [], ◌∷◌, sym, refl, ap, subst, arith}
 use Rattle.words.specs.Words.{word}
 use Rattle.writer.specs.declared.tally.Tally.{Tally}
 use Rattle.writer.specs.Refusals.{Wrote}
 use Rattle.writer.specs.Tallies.{begun}
-use Rattle.writer.specs.Tables.{Opened, IsBegun, labelled}
+use Rattle.writer.specs.Tables.{Opened, labelled}
 use Rattle.writer.proofs.Ends.{rule_begun}
 use Rattle.writer.proofs.table.TableWriter.begin.Goals as goal
 

@@ -1,4 +1,4 @@
-use Rattle.std.proofs.Common.{◌≡◌, ℕ, ◌+◌}
+use Rattle.std.proofs.Common.{◌≡◌, ◌+◌}
 use Rattle.grammar.specs.Writing.{body_words}
 use Rattle.grammar.specs.Sizes.{body_size}
 use Rattle.grammar.proofs.Sizes.{body_length}

@@ -1,4 +1,4 @@
-use Rattle.std.proofs.Common.{◌≡◌, ℕ, ◌+◌}
+use Rattle.std.proofs.Common.{◌≡◌, ◌+◌}
 use Rattle.grammar.specs.Writing.{guard_words}
 use Rattle.grammar.specs.Sizes.{guard_size}
 use Rattle.grammar.proofs.Sizes.{guard_length}

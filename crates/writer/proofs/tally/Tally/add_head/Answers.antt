@@ -1,4 +1,4 @@
-use Rattle.std.proofs.Common.{◌≡◌, ℕ, ◌+◌}
+use Rattle.std.proofs.Common.{◌≡◌, ◌+◌}
 use Rattle.words.specs.Words.{tag}
 use Rattle.grammar.specs.Writing.{head_words}
 use Rattle.grammar.specs.Sizes.{head_size}
