@@ -1,6 +1,6 @@
 ghost use Rattle.std.specs.Prelude.{◌≤ℤ◌};
 ghost use Rattle.facts.specs.Kinds.{full_low, full_high};
-ghost use Rattle.std.proofs.Common.{rules, arith};
+ghost use Rattle.std.proofs.Common.{rules};
 
 use crate::kind::Kind;
 
@@ -23,15 +23,15 @@ impl Kind for WholeCount {
 
     ghost meaning = { λ v. v.number };
 
-    ghost ends = { first_of (Prim.search rules, Prim.grind (arith, Self.row.coded.inj)) };
+    ghost ends = { Prim.search rules };
 
-    ghost least = { first_of (Prim.search rules, Prim.grind (arith, Self.row.coded.inj)) };
+    ghost least = { Prim.search rules };
 
-    ghost most = { first_of (Prim.search rules, Prim.grind (arith, Self.row.coded.inj)) };
+    ghost most = { Prim.search rules };
 
-    ghost above = { first_of (Prim.search rules, Prim.grind (arith, Self.row.coded.inj)) };
+    ghost above = { Prim.search rules };
 
-    ghost under = { first_of (Prim.search rules, Prim.grind (arith, Self.row.coded.inj)) };
+    ghost under = { Prim.search rules };
 
     fn low() -> i32 {
         LOW

@@ -1,6 +1,7 @@
 // The largest amounts and numbers, and one more.
 use crate::outcome::*;
 use std::alloc::Global;
+use std::test::Fail;
 
 // Rules that only take a fact, with labels from 1.
 fn many_rules(heap: Global, count: u16) -> Result<Vec<u32>, Fail> {

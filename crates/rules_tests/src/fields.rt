@@ -2,6 +2,7 @@
 use crate::outcome::*;
 use grammar::{Args, BodyFact, Guard, Head, Operand, Term, Test};
 use rules::load;
+use std::test::Fail;
 
 // A guard and a body fact with a sum and a difference each.
 const SUMS: [u32; 19] = [

@@ -6,6 +6,8 @@ mod amounts;
 #[cfg(test)]
 mod fields;
 #[cfg(test)]
+mod one_word;
+#[cfg(test)]
 mod order;
 #[cfg(test)]
 mod outcome;
@@ -13,5 +15,3 @@ mod outcome;
 mod sample;
 #[cfg(test)]
 mod turns;
-#[cfg(test)]
-mod words;

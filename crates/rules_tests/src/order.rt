@@ -1,5 +1,6 @@
 // Which of several faults is told.
 use crate::outcome::*;
+use std::test::Fail;
 
 #[test]
 fn the_leftmost_word_decides(rt: HostRuntime) -> Result<(), Fail> {

@@ -1,6 +1,7 @@
 use crate::outcome::*;
 use grammar::{Args, Guard, Head, Operand, Term, Test};
 use rules::{LoadFault, load};
+use std::test::Fail;
 
 // Rule 7 keeps a fact 1(0, 1) and takes a fact 1(0, 2), where variable 1 is at most variable 2.
 const SAMPLE: [u32; 11] = [

@@ -1,5 +1,6 @@
 // Words out of turn, and bits that a word may not set.
 use crate::outcome::*;
+use std::test::Fail;
 
 #[test]
 fn a_table_is_rules_and_end(rt: HostRuntime) -> Result<(), Fail> {
