@@ -1,7 +1,7 @@
 -- Reading accepts exactly what is written: each reader reads back what was written, and has read only what was written.
 use Rattle.std.proofs.Common.{◌≡◌, ℕ, zero, suc, ◌+◌, ◌-◌, ◌*◌, ◌^◌, ◌<◌, ◌≤◌, Bool, true, false, cond, eqb, ltb, List, [], ◌∷◌, ◌++◌, length, get_or, sym, refl, ap, ◌∙◌, subst, ap₂, append_assoc, arith}
 use lib.Bits.{bit_and}
-use Rattle.std.specs.List.{flat_map, AllByRecursion as All}
+use Rattle.std.specs.List.{flat_map, AllByRecursion}
 use Rattle.std.proofs.lemmas.Bool.Decides.{nat_tests}
 use Rattle.words.specs.Words.{kind_of, payload_of, word, masks, allowed, clean, name_in, count_in, label_in, signed, unsigned}
 use Rattle.grammar.specs.declared.reason.Reason.{Reason}
@@ -157,7 +157,7 @@ term_reads = record { all = term_all; only = term_only }
 
 -- arguments, and the words after them
 module _ {A : Type 0} {read : List ℕ → Parsed A} {words : A → List ℕ} {Good : A → Type 0} (R : Reads read words Good) where
-  args_all : (xs : Args A) (us : List ℕ) → All Good (listed xs) → read_args read (amount xs) (flat_map words (listed xs) ++ us) ≡ ok xs us
+  args_all : (xs : Args A) (us : List ℕ) → AllByRecursion Good (listed xs) → read_args read (amount xs) (flat_map words (listed xs) ++ us) ≡ ok xs us
   args_all Zero us h = refl
   args_all (One a) us h = rw (append_assoc, R.all a us h.0)
   args_all (Two a b) us h = rw (append_assoc, append_assoc, R.all a _ h.0, R.all b us h.1.0)
@@ -165,7 +165,7 @@ module _ {A : Type 0} {read : List ℕ → Parsed A} {words : A → List ℕ} {G
       rw (append_assoc, append_assoc, append_assoc, R.all a _ h.0, R.all b _ h.1.0, R.all c us h.1.1.0)
 
   abbrev Gave : ℕ → List ℕ → Args A → List ℕ → Type 0
-  Gave n ws xs us = All Good (listed xs) × (amount xs ≡ n) × (ws ≡ flat_map words (listed xs) ++ us)
+  Gave n ws xs us = AllByRecursion Good (listed xs) × (amount xs ≡ n) × (ws ≡ flat_map words (listed xs) ++ us)
 
   args_only : (n : ℕ) (ws : List ℕ) (xs : Args A) (us : List ℕ) → n ≤ 3 → read_args read n ws ≡ ok xs us → Gave n ws xs us
   args_only zero ws xs us b h = moved (Gave 0 ws) Zero xs ws us h (tt, refl, refl)
@@ -210,7 +210,7 @@ pub record ReadsPart {A : Type 0} (read : ℕ → List ℕ → Parsed A) (k : �
 
 -- a name, a count and that many arguments: what heads and body facts share
 module _ {A : Type 0} {read : List ℕ → Parsed A} {words : A → List ℕ} {Good : A → Type 0} (R : Reads read words Good) where
-  named_all : {B : Type 0} (make : ℕ → Args A → B) (name : ℕ) (xs : Args A) (us : List ℕ) → name < 2 ^ 8 → All Good (listed xs) →
+  named_all : {B : Type 0} (make : ℕ → Args A → B) (name : ℕ) (xs : Args A) (us : List ℕ) → name < 2 ^ 8 → AllByRecursion Good (listed xs) →
       cond (ltb 3 (count_in (name * 2 ^ 16 + amount xs))) (no OutOfRange (suc (length (flat_map words (listed xs) ++ us))))
       (then (read_args read (count_in (name * 2 ^ 16 + amount xs)) (flat_map words (listed xs) ++ us)) (λ ys vs. ok (make (name_in (name * 2 ^ 16 + amount xs)) ys) vs))
       ≡ ok (make name xs) us
@@ -223,7 +223,7 @@ module _ {A : Type 0} {read : List ℕ → Parsed A} {words : A → List ℕ} {G
 
   named_only : {B : Type 0} (make : ℕ → Args A → B) (n : ℕ) (ws : List ℕ) (b : B) (us : List ℕ) →
       cond (ltb 3 (count_in n)) (no OutOfRange (suc (length ws))) (then (read_args read (count_in n) ws) (λ ys vs. ok (make (name_in n) ys) vs)) ≡ ok b us →
-      (xs : Args A) × All Good (listed xs) × (amount xs ≡ count_in n) × (make (name_in n) xs ≡ b) × (ws ≡ flat_map words (listed xs) ++ us)
+      (xs : Args A) × AllByRecursion Good (listed xs) × (amount xs ≡ count_in n) × (make (name_in n) xs ≡ b) × (ws ≡ flat_map words (listed xs) ++ us)
   named_only make n ws b us h =
       cond_ok (ltb 3 (count_in n)) _ _ b us h
       (λ t q. no_ok _ _ b us q)
@@ -268,7 +268,7 @@ head_reads k m =
           let e : name_in n ≡ h.name = ap (λ (x : Head). x.name) g.3 in
           let f : g.0 ≡ h.args = ap (λ (x : Head). x.args) g.3 in
           let b : eqb (bit_and n 0xFF000F) n ≡ true = rw m at a in (
-            (subst (λ (x : ℕ). x < 2 ^ 8) e (name_lt n), subst (λ (x : Args Operand). All FormedOperand (listed x)) f g.1),
+            (subst (λ (x : ℕ). x < 2 ^ 8) e (name_lt n), subst (λ (x : Args Operand). AllByRecursion FormedOperand (listed x)) f g.1),
             same_payload n h.name (amount h.args) b e (sym (ap amount f) ∙ g.2),
             g.4 ∙ ap (λ (x : Args Operand). flat_map operand_words (listed x) ++ us) f,
           );
@@ -291,7 +291,7 @@ body_reads =
           let g = named_only term_reads made_body n ws h us i in
           let e : name_in n ≡ h.name = ap (λ (x : BodyFact). x.name) g.3 in
           let f : g.0 ≡ h.args = ap (λ (x : BodyFact). x.args) g.3 in (
-            (subst (λ (x : ℕ). x < 2 ^ 8) e (name_lt n), subst (λ (x : Args Term). All FormedTerm (listed x)) f g.1),
+            (subst (λ (x : ℕ). x < 2 ^ 8) e (name_lt n), subst (λ (x : Args Term). AllByRecursion FormedTerm (listed x)) f g.1),
             same_payload n h.name (amount h.args) a e (sym (ap amount f) ∙ g.2),
             g.4 ∙ ap (λ (x : Args Term). flat_map term_words (listed x) ++ us) f,
           );
@@ -363,7 +363,7 @@ module _ {A : Type 0} {read : ℕ → List ℕ → Parsed A} {k : ℕ} {words : 
   parts_none zero (w ∷ us) h = rw h
   parts_none (suc room) (w ∷ us) h = rw h
 
-  parts_all : (room : ℕ) (xs : List A) (us : List ℕ) → All Good xs → length xs ≤ room → starts k us ≡ false →
+  parts_all : (room : ℕ) (xs : List A) (us : List ℕ) → AllByRecursion Good xs → length xs ≤ room → starts k us ≡ false →
       read_parts read k room (flat_map words xs ++ us) ≡ ok xs us
   parts_all room [] us g h s = parts_none room us s
   parts_all zero (x ∷ xs) us g h s = absurd (omega arith)
@@ -380,7 +380,7 @@ module _ {A : Type 0} {read : ℕ → List ℕ → Parsed A} {k : ℕ} {words : 
       rw (y, c, e, p, t, f, i)
 
   abbrev Took : ℕ → List ℕ → List A → List ℕ → Type 0
-  Took room ws xs us = All Good xs × (length xs ≤ room) × (ws ≡ flat_map words xs ++ us) × (starts k us ≡ false)
+  Took room ws xs us = AllByRecursion Good xs × (length xs ≤ room) × (ws ≡ flat_map words xs ++ us) × (starts k us ≡ false)
 
   parts_only : (room : ℕ) (ws : List ℕ) (xs : List A) (us : List ℕ) → read_parts read k room ws ≡ ok xs us → Took room ws xs us
   parts_only room [] xs us h = moved (Took room []) [] xs [] us h (tt, omega arith, refl, refl)
@@ -408,7 +408,7 @@ module _ {A : Type 0} {read : ℕ → List ℕ → Parsed A} {k : ℕ} {words : 
       (λ e i. moved (Took (suc room) (w ∷ ws)) [] xs (w ∷ ws) us i (tt, omega arith, refl, e))
 
   -- what follows decides whether a word of another kind comes next
-  parts_start : (j : ℕ) (xs : List A) (us : List ℕ) → All Good xs → eqb k j ≡ false → starts j us ≡ false → starts j (flat_map words xs ++ us) ≡ false
+  parts_start : (j : ℕ) (xs : List A) (us : List ℕ) → AllByRecursion Good xs → eqb k j ≡ false → starts j us ≡ false → starts j (flat_map words xs ++ us) ≡ false
   parts_start j [] us g e s = s
   parts_start j (x ∷ xs) us g e s = rw (R.split x) (other_kind k j (R.first x) (R.small x g.0) e)
 
@@ -483,13 +483,13 @@ module _ (L : Limits) where
   label_in_lem n = omega arith
 
   -- END or a RULE word comes next, so no part of a rule
-  table_over : (rs : List Parts) (us : List ℕ) → All (FormedRule L) rs → Over (written rs ++ us)
+  table_over : (rs : List Parts) (us : List ℕ) → AllByRecursion (FormedRule L) rs → Over (written rs ++ us)
   table_over [] us g = (refl, refl, refl, refl)
   table_over (r ∷ rs) us g =
       let b : r.label < 2 ^ 28 = omega (arith, g.0.label) in
       (other_kind 1 2 r.label b refl, other_kind 1 3 r.label b refl, other_kind 1 4 r.label b refl, other_kind 1 5 r.label b refl)
 
-  rules_all : (room : ℕ) (rs : List Parts) (us : List ℕ) → All (FormedRule L) rs → length rs ≤ room → read_rules L room (written rs ++ us) ≡ ok rs us
+  rules_all : (room : ℕ) (rs : List Parts) (us : List ℕ) → AllByRecursion (FormedRule L) rs → length rs ≤ room → read_rules L room (written rs ++ us) ≡ ok rs us
   rules_all zero [] us g h = refl
   rules_all (suc room) [] us g h = refl
   rules_all zero (r ∷ rs) us g h = absurd (omega arith)
@@ -507,7 +507,7 @@ module _ (L : Limits) where
       ap (λ (v : List ℕ). read_rules L (suc room) v) s ∙ q
 
   abbrev Tabled : ℕ → List ℕ → List Parts → List ℕ → Type 0
-  Tabled room ws rs us = All (FormedRule L) rs × (length rs ≤ room) × (ws ≡ written rs ++ us)
+  Tabled room ws rs us = AllByRecursion (FormedRule L) rs × (length rs ≤ room) × (ws ≡ written rs ++ us)
 
   ended : (room w : ℕ) (ws : List ℕ) (rs : List Parts) (us : List ℕ) → eqb (kind_of w) 15 ≡ true →
       cond (clean w) (ok [] ws) (no StrayBit (suc (length ws))) ≡ ok rs us → Tabled room (w ∷ ws) rs us

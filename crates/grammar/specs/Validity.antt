@@ -6,7 +6,7 @@ use Rattle.grammar.specs.declared.part.Operand.TheVariants.{Var, Const}
 use Rattle.grammar.specs.declared.part.Head.{Head}
 use Rattle.grammar.specs.Parts.{listed, Parts}
 use Rattle.facts.specs.Lists.{Nth}
-use Rattle.std.specs.List.{flat_map, AllByRecursion as All}
+use Rattle.std.specs.List.{flat_map, AllByRecursion}
 use Rattle.grammar.specs.Writing.{standard, Formed, tail_words, rule_words}
 
 abbrev pub some : {A : Type 0} → (A → Bool) → List A → Bool
@@ -30,7 +30,7 @@ free r w = cond (kind_of w == 6) (not (binds r (payload_of w))) false
 
 -- every variable of the guards and the body stands in a head
 abbrev pub Bound : Parts → Type 0
-Bound r = All (λ w. free r w ≡ false) (tail_words r)
+Bound r = AllByRecursion (λ w. free r w ≡ false) (tail_words r)
 
 pub record Sound (r : Parts) : Type 0 where
   pub bound : Bound r
@@ -43,7 +43,7 @@ Rising n (r ∷ rs) = (n < r.label) × Rising r.label rs
 
 pub record Valid (rs : List Parts) : Type 0 where
   pub formed : Formed standard rs
-  pub sound : All Sound rs
+  pub sound : AllByRecursion Sound rs
   pub rising : Rising 0 rs
 
 -- the label of the last of these rules; n if there is none
@@ -56,7 +56,7 @@ pub record FirstFree (r : Parts) (n : ℕ) : Type 0 where
   pub word : ℕ
   pub stands : Nth (tail_words r) n word
   pub unbound : free r word ≡ true
-  pub first : All (λ w. free r w ≡ false) (take n (tail_words r))
+  pub first : AllByRecursion (λ w. free r w ≡ false) (take n (tail_words r))
 
 -- where the words of the i-th rule begin, counted from 0
 abbrev pub rule_at : List Parts → ℕ → ℕ

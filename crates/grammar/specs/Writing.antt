@@ -1,6 +1,6 @@
 -- The words that rules are written as, and which tables are well formed.
 use Rattle.std.specs.Prelude.{ℕ, ◌+◌, ◌*◌, ◌^◌, ◌<◌, ◌≤◌, List, [], ◌∷◌, ◌++◌, length}
-use Rattle.std.specs.List.{flat_map, AllByRecursion as All}
+use Rattle.std.specs.List.{flat_map, AllByRecursion}
 use Rattle.words.specs.Words.{word, unsigned, FullRange}
 use Rattle.grammar.specs.declared.part.Operand.{Operand}
 use Rattle.grammar.specs.declared.part.Operand.TheVariants.{Var, Const}
@@ -72,21 +72,21 @@ FormedTerm (Sum a b) = FormedOperand a × FormedOperand b
 FormedTerm (Diff a b) = FormedOperand a × FormedOperand b
 
 abbrev pub FormedHead : Head → Type 0
-FormedHead h = (h.name < 2 ^ 8) × All FormedOperand (listed h.args)
+FormedHead h = (h.name < 2 ^ 8) × AllByRecursion FormedOperand (listed h.args)
 
 abbrev pub FormedGuard : Guard → Type 0
 FormedGuard g = FormedTerm g.left × FormedTerm g.right
 
 abbrev pub FormedBody : BodyFact → Type 0
-FormedBody b = (b.name < 2 ^ 8) × All FormedTerm (listed b.args)
+FormedBody b = (b.name < 2 ^ 8) × AllByRecursion FormedTerm (listed b.args)
 
 -- numbers and amounts of a rule are in range; a head follows the RULE word
 pub record FormedRule (L : Limits) (r : Parts) : Type 0 where
   pub label : r.label < 2 ^ 16
-  pub kept : All FormedHead r.kept
-  pub taken : All FormedHead r.taken
-  pub guards : All FormedGuard r.guards
-  pub body : All FormedBody r.body
+  pub kept : AllByRecursion FormedHead r.kept
+  pub taken : AllByRecursion FormedHead r.taken
+  pub guards : AllByRecursion FormedGuard r.guards
+  pub body : AllByRecursion FormedBody r.body
   pub some_head : 0 < length r.kept + length r.taken
   pub few_heads : length r.kept + length r.taken ≤ L.heads
   pub few_guards : length r.guards ≤ L.guards
@@ -94,4 +94,4 @@ pub record FormedRule (L : Limits) (r : Parts) : Type 0 where
 
 pub record Formed (L : Limits) (rs : List Parts) : Type 0 where
   pub few : length rs ≤ L.rules
-  pub each : All (FormedRule L) rs
+  pub each : AllByRecursion (FormedRule L) rs

@@ -1,6 +1,6 @@
 -- How often facts stand in a list, in a store and in a collection.
 use Rattle.std.proofs.Common.{◌≡◌, ℕ, zero, suc, ◌+◌, Bool, cond, ◌≢◌, List, [], ◌∷◌, ◌++◌, drop, set, replicate, count_by, refl, ap, ◌∙◌, arith}
-use Rattle.std.specs.List.{AllByRecursion as All}
+use Rattle.std.specs.List.{AllByRecursion}
 use Rattle.std.proofs.lemmas.List.Sums.{sum_by-cons, sum_by-append}
 use Rattle.facts.specs.Lists.{Nth}
 use Rattle.facts.specs.Places.{Place, empty, held}
@@ -47,7 +47,7 @@ module _ {F : Type 0} (q : F → Bool) where
       let a = count_cons g (stored s) in let b = count_cons g (stored (set s p empty)) in let d = count_clear s p n f h in omega arith
 
 module _ {F : Type 0} where
-  pub held_set : (s : List (Place F)) (p : ℕ) (x : Place F) (ps : List ℕ) (cs : List (Cell F)) → Held s ps cs → All (λ (q : ℕ). q ≢ p) ps → Held (set s p x) ps cs
+  pub held_set : (s : List (Place F)) (p : ℕ) (x : Place F) (ps : List ℕ) (cs : List (Cell F)) → Held s ps cs → AllByRecursion (λ (q : ℕ). q ≢ p) ps → Held (set s p x) ps cs
   held_set s p x [] [] h a = tt
   held_set s p x [] (c ∷ cs) h a = h
   held_set s p x (r ∷ ps) [] h a = h

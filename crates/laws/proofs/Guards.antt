@@ -1,6 +1,6 @@
 -- Each choice to which a rule applies is guarded: a lane has it ahead, or has found it.
 use Rattle.std.proofs.Common.{◌≡◌, ℕ, ◌+◌, ◌≤◌, ◌≢◌, ◌⊎◌, List, set, sym, ap, ◌∙◌, subst, inl, inr, ⊎_elim, arith}
-use Rattle.std.specs.List.{AllByRecursion as All}
+use Rattle.std.specs.List.{AllByRecursion}
 use Rattle.std.proofs.lemmas.Bool.{cases_eq}
 use Rattle.facts.specs.Lists.{Nth}
 use Rattle.facts.specs.Places.{Place}
@@ -95,7 +95,7 @@ module _ {F R : Type 0} (T : Rules F R) (P : ℕ) where
   abbrev pub Ahead : List (Place F) → List (Lane R) → Type 0
   Ahead st ls =
       (i : ℕ) (r : R) (ps : List ℕ) (cs : List (Cell F)) (j p : ℕ) (c : Cell F)
-      → Nth T.table i r → Choice T st r ps cs → Nth ps j p → Nth cs j c → All (λ (d : Cell F). d.number ≤ c.number) cs
+      → Nth T.table i r → Choice T st r ps cs → Nth ps j p → Nth cs j c → AllByRecursion (λ (d : Cell F). d.number ≤ c.number) cs
       → Guarded ls p c.number c.fact (record { rule = r; pos = j; places = ps })
 
   -- a guard outlives the change of one lane, if it does where that lane is the guard

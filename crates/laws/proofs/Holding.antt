@@ -1,6 +1,6 @@
 -- What places hold, and go on holding.
 use Rattle.std.proofs.Common.{◌≡◌, ℕ, zero, suc, ◌+◌, ◌<◌, ◌≤◌, ◌≢◌, ◌⊎◌, List, [], ◌∷◌, length, set, sym, refl, ap, ◌∙◌, subst, inl, inr, ⊎_elim, arith, length-set}
-use Rattle.std.specs.List.{AllByRecursion as All}
+use Rattle.std.specs.List.{AllByRecursion}
 use Rattle.facts.specs.Lists.{Nth}
 use Rattle.facts.specs.Places.{Place, empty, held}
 use Rattle.laws.specs.Machine.{Cell, numbers, facts}
@@ -55,7 +55,7 @@ module _ {F : Type 0} where
       ((λ m g a. inl (held_one st p m g c.number c.fact a h.0).0), still_held n st ps cs h.1)
 
   -- where none of the numbers there now is above n, they are those named
-  pub still_same : (n : ℕ) (st : List (Place F)) (ps : List ℕ) (cs : List (Cell F)) (ns : List ℕ) → Still n st ps ns → Held st ps cs → All (λ (d : Cell F). d.number ≤ n) cs → numbers cs ≡ ns
+  pub still_same : (n : ℕ) (st : List (Place F)) (ps : List ℕ) (cs : List (Cell F)) (ns : List ℕ) → Still n st ps ns → Held st ps cs → AllByRecursion (λ (d : Cell F). d.number ≤ n) cs → numbers cs ≡ ns
   still_same n st [] [] [] a h b = refl
   still_same n st [] [] (m ∷ ns) a h b = absurd a
   still_same n st [] (c ∷ cs) ns a h b = absurd h
@@ -132,7 +132,7 @@ module _ {F : Type 0} where
   length_numbers (c ∷ cs) = ap suc (length_numbers cs)
 
   -- a newer cell is none of those
-  pub held_old : (st : List (Place F)) (p₀ n : ℕ) (f : F) (b : ℕ) → b < n → (ps : List ℕ) (cs : List (Cell F)) → Held (set st p₀ (held n f)) ps cs → All (λ (d : Cell F). d.number ≤ b) cs → Held st ps cs
+  pub held_old : (st : List (Place F)) (p₀ n : ℕ) (f : F) (b : ℕ) → b < n → (ps : List ℕ) (cs : List (Cell F)) → Held (set st p₀ (held n f)) ps cs → AllByRecursion (λ (d : Cell F). d.number ≤ b) cs → Held st ps cs
   held_old st p₀ n f b lt [] [] h a = tt
   held_old st p₀ n f b lt [] (c ∷ cs) h a = h
   held_old st p₀ n f b lt (p ∷ ps) [] h a = h

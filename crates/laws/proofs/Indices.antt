@@ -1,7 +1,7 @@
 -- At which index a candidate stands.
 use Rattle.std.proofs.Common.{◌≡◌, ℕ, zero, suc, ◌+◌, ◌-◌, ◌*◌, ◌^◌, ◌<◌, ◌≤◌, Bool, true, cond, List, [], ◌∷◌, ◌++◌, map, length, take, sum_by, sym, refl, ap, ◌∙◌, subst, arith}
 use lib.ListN.{length-map}
-use Rattle.std.specs.List.{flat_map, range_with_len, AllByRecursion as All}
+use Rattle.std.specs.List.{flat_map, range_with_len, AllByRecursion}
 use Rattle.std.proofs.lemmas.List.Sums.{sum_by-cons}
 use Rattle.laws.specs.Rules.{Rules}
 use Rattle.laws.specs.Candidates.{Candidate, tuples, ways, at_position, of_rule, candidates, block, before_position, before_rule, digits}
@@ -48,7 +48,7 @@ nth_blocks (suc P) a m tails (suc p) k ps e l h =
     let d = subst (λ (z : ℕ). Nth (f a ++ flat_map f (range_with_len (a + 1) P)) (m + (p * m + k)) (z ∷ ps)) ea c in
     subst (λ (i : ℕ). Nth (f a ++ flat_map f (range_with_len (a + 1) P)) i ((a + suc p) ∷ ps)) (omega arith) d
 
-pub tuples_at : (P n : ℕ) (ps : List ℕ) → length ps ≡ n → All (λ (p : ℕ). p < P) ps → Nth (tuples P n) (digits P ps) ps
+pub tuples_at : (P n : ℕ) (ps : List ℕ) → length ps ≡ n → AllByRecursion (λ (p : ℕ). p < P) ps → Nth (tuples P n) (digits P ps) ps
 tuples_at P zero [] e a = refl
 tuples_at P zero (p ∷ ps) e a = absurd (omega arith)
 tuples_at P (suc n) [] e a = absurd (omega arith)
@@ -58,7 +58,7 @@ tuples_at P (suc n) (p ∷ ps) e a =
     let r₁ = subst (λ (z : ℕ). Nth (tuples P (suc n)) (p * P ^ n + digits P ps) (z ∷ ps)) (omega arith) r in
     subst (λ (z : ℕ). Nth (tuples P (suc n)) (p * P ^ z + digits P ps) (p ∷ ps)) (sym en) r₁
 
-pub ways_at : (P own n j : ℕ) (ps : List ℕ) → length ps ≡ n → All (λ (p : ℕ). p < P) ps → Nth ps j own → Nth (ways P own n j) (digits P (without j ps)) ps
+pub ways_at : (P own n j : ℕ) (ps : List ℕ) → length ps ≡ n → AllByRecursion (λ (p : ℕ). p < P) ps → Nth ps j own → Nth (ways P own n j) (digits P (without j ps)) ps
 ways_at P own n j [] e a h = absurd h
 ways_at P own zero j (p ∷ ps) e a h = absurd (omega arith)
 ways_at P own (suc n) zero (p ∷ ps) e a h =
@@ -74,7 +74,7 @@ ways_at P own (suc n) (suc j) (p ∷ ps) e a h =
     subst (λ (z : ℕ). Nth (ways P own (suc n) (suc j)) (p * P ^ z + digits P (without j ps)) (p ∷ ps)) ew r₁
 
 module _ {F R : Type 0} (T : Rules F R) where
-  pub candidate_at : (P own : ℕ) (f : F) (i : ℕ) (r : R) (j : ℕ) (ps : List ℕ) → Nth T.table i r → j < T.heads r → T.fits r j f ≡ true → length ps ≡ T.heads r → All (λ (p : ℕ). p < P) ps → Nth ps j own → Nth (candidates T P own f) (before_rule T P f i + (before_position T P f r j + digits P (without j ps))) (record { rule = r; pos = j; places = ps })
+  pub candidate_at : (P own : ℕ) (f : F) (i : ℕ) (r : R) (j : ℕ) (ps : List ℕ) → Nth T.table i r → j < T.heads r → T.fits r j f ≡ true → length ps ≡ T.heads r → AllByRecursion (λ (p : ℕ). p < P) ps → Nth ps j own → Nth (candidates T P own f) (before_rule T P f i + (before_position T P f r j + digits P (without j ps))) (record { rule = r; pos = j; places = ps })
   candidate_at P own f i r j ps at-r lt fit long low at_own =
       let t : Candidate R = record { rule = r; pos = j; places = ps } in
       let ws : List (Candidate R) = map (λ (qs : List ℕ). record { rule = r; pos = j; places = qs }) (ways P own (T.heads r) j) in

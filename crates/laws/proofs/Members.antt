@@ -1,6 +1,6 @@
 -- Each choice to which a rule applies is among the candidates, and what each candidate is.
 use Rattle.std.proofs.Common.{◌≡◌, ℕ, zero, suc, ◌<◌, true, List, [], ◌∷◌, map, length, refl, ap, ◌∙◌, subst, arith}
-use Rattle.std.specs.List.{range_with_len, AllByRecursion as All}
+use Rattle.std.specs.List.{range_with_len, AllByRecursion}
 use Rattle.facts.specs.Lists.{Nth}
 use Rattle.facts.specs.Places.{Place, held}
 use Rattle.laws.specs.Rules.{Rules, WellFormed}
@@ -12,7 +12,7 @@ use Rattle.laws.proofs.Nths.{nth_lt, from_map, from_joined, nth_cond}
 use Rattle.laws.proofs.Indices.{candidate_at}
 
 module _ {F : Type 0} where
-  pub held_below : (st : List (Place F)) (ps : List ℕ) (cs : List (Cell F)) → Held st ps cs → All (λ (p : ℕ). p < length st) ps
+  pub held_below : (st : List (Place F)) (ps : List ℕ) (cs : List (Cell F)) → Held st ps cs → AllByRecursion (λ (p : ℕ). p < length st) ps
   held_below st [] [] h = tt
   held_below st [] (c ∷ cs) h = absurd h
   held_below st (p ∷ ps) [] h = absurd h

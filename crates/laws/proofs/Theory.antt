@@ -1,6 +1,6 @@
 -- The law, over all runs of a new machine.
 use Rattle.std.proofs.Common.{◌≡◌, ℕ, suc, ◌+◌, ◌<◌, ◌≤◌, true, false, eqb, List, [], ◌∷◌, length, count_by, sym, refl, ap, ◌∙◌, subst, ⊎_elim, arith}
-use Rattle.std.specs.List.{AllByRecursion as All}
+use Rattle.std.specs.List.{AllByRecursion}
 use Rattle.std.proofs.lemmas.Bool.{cases_lt, cases_Bool}
 use Rattle.std.proofs.ByRecursion.{All-weaker}
 use Rattle.facts.specs.Lists.{Nth}
@@ -24,7 +24,7 @@ use Rattle.laws.proofs.Keeping.{entry_of, inv_new, inv_step}
 use Rattle.laws.proofs.Replaying.{replays_step}
 
 -- a cell with the highest number
-top_cell : {F : Type 0} (cs : List (Cell F)) → 0 < length cs → (j : ℕ) × (c : Cell F) × Nth cs j c × All (λ (d : Cell F). d.number ≤ c.number) cs
+top_cell : {F : Type 0} (cs : List (Cell F)) → 0 < length cs → (j : ℕ) × (c : Cell F) × Nth cs j c × AllByRecursion (λ (d : Cell F). d.number ≤ c.number) cs
 top_cell [] h = absurd (omega arith)
 top_cell (c ∷ []) h = (0, c, refl, (omega arith, tt))
 top_cell {F} (c ∷ d ∷ cs) h =

@@ -1,6 +1,6 @@
 -- After any run each call has an outcome.
 use Rattle.std.proofs.Common.{◌≡◌, ℕ, zero, suc, ◌+◌, ◌<◌, ◌≤◌, true, false, ◌≢◌, ◌⊎◌, List, [], ◌∷◌, length, refl, ap, subst, inl, inr, ⊎_elim, arith}
-use Rattle.std.specs.List.{AllByRecursion as All}
+use Rattle.std.specs.List.{AllByRecursion}
 use Rattle.std.proofs.lemmas.Bool.{cases_lt, cases_eq, cases_Bool, both_ways}
 use Rattle.facts.specs.Lists.{Nth}
 use Rattle.facts.specs.Places.{Place, empty, held}
@@ -76,22 +76,22 @@ module _ {F : Type 0} where
       (λ (b : Gone st p m). inl (m, inl (b, refl)))
       (stands_cases st p m)
 
-others_cases : (p : ℕ) (ps : List ℕ) → All (λ (q : ℕ). q ≢ p) ps ⊎ (All (λ (q : ℕ). q ≢ p) ps → ⊥)
+others_cases : (p : ℕ) (ps : List ℕ) → AllByRecursion (λ (q : ℕ). q ≢ p) ps ⊎ (AllByRecursion (λ (q : ℕ). q ≢ p) ps → ⊥)
 others_cases p [] = inl tt
 others_cases p (q ∷ ps) =
     ⊎_elim
-    (λ (e : q ≡ p). inr (λ (a : All (λ (z : ℕ). z ≢ p) (q ∷ ps)). a.0 e))
+    (λ (e : q ≡ p). inr (λ (a : AllByRecursion (λ (z : ℕ). z ≢ p) (q ∷ ps)). a.0 e))
     (λ (ne : q ≡ p → ⊥).
-    ⊎_elim (λ (a : All (λ (z : ℕ). z ≢ p) ps). inl (ne, a)) (λ (a : All (λ (z : ℕ). z ≢ p) ps → ⊥). inr (λ (b : All (λ (z : ℕ). z ≢ p) (q ∷ ps)). a b.1)) (others_cases p ps))
+    ⊎_elim (λ (a : AllByRecursion (λ (z : ℕ). z ≢ p) ps). inl (ne, a)) (λ (a : AllByRecursion (λ (z : ℕ). z ≢ p) ps → ⊥). inr (λ (b : AllByRecursion (λ (z : ℕ). z ≢ p) (q ∷ ps)). a b.1)) (others_cases p ps))
     (cases_eq q p)
 
 pub apart_cases : (ps : List ℕ) → Apart ps ⊎ (Apart ps → ⊥)
 apart_cases [] = inl tt
 apart_cases (p ∷ ps) =
     ⊎_elim
-    (λ (a : All (λ (q : ℕ). q ≢ p) ps).
+    (λ (a : AllByRecursion (λ (q : ℕ). q ≢ p) ps).
     ⊎_elim (λ (b : Apart ps). inl (a, b)) (λ (b : Apart ps → ⊥). inr (λ (c : Apart (p ∷ ps)). b c.1)) (apart_cases ps))
-    (λ (a : All (λ (q : ℕ). q ≢ p) ps → ⊥). inr (λ (c : Apart (p ∷ ps)). a c.0))
+    (λ (a : AllByRecursion (λ (q : ℕ). q ≢ p) ps → ⊥). inr (λ (c : Apart (p ∷ ps)). a c.0))
     (others_cases p ps)
 
 module _ {F R : Type 0} (T : Rules F R) (s : Machine F R) where

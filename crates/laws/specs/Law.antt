@@ -1,6 +1,6 @@
 -- The law of the lane machine, over all its runs.
 use Rattle.std.specs.Prelude.{◌≡◌, ℕ, ◌+◌, ◌<◌, ◌≤◌, Bool, true, List, [], ◌∷◌, ◌++◌, length, drop, count_by}
-use Rattle.std.specs.List.{AllByRecursion as All}
+use Rattle.std.specs.List.{AllByRecursion}
 use Rattle.facts.specs.Lists.{Nth}
 use Rattle.facts.specs.Places.{Place, empty, held}
 use Rattle.laws.specs.Rules.{Rules, WellFormed, Applies}
@@ -132,5 +132,5 @@ abbrev pub Ordered : Type 0 → Type 0 → Type 0
 Ordered F R =
     (T : Rules F R) (P own : ℕ) (f : F) (i : ℕ) (r : R) (j : ℕ) (ps : List ℕ)
     → Nth T.table i r → j < T.heads r → T.fits r j f ≡ true
-    → length ps ≡ T.heads r → All (λ (p : ℕ). p < P) ps → Nth ps j own
+    → length ps ≡ T.heads r → AllByRecursion (λ (p : ℕ). p < P) ps → Nth ps j own
     → Nth (candidates T P own f) (before_rule T P f i + (before_position T P f r j + digits P (without j ps))) (record { rule = r; pos = j; places = ps })

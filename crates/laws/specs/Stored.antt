@@ -1,6 +1,6 @@
 -- What stands in a store, and where.
 use Rattle.std.specs.Prelude.{◌≡◌, ℕ, ◌≢◌, ◌⊎◌, List, [], ◌∷◌, slice_set}
-use Rattle.std.specs.List.{AllByRecursion as All}
+use Rattle.std.specs.List.{AllByRecursion}
 use Rattle.facts.specs.Lists.{Nth}
 use Rattle.facts.specs.Places.{Place, empty, held}
 use Rattle.laws.specs.Machine.{Cell}
@@ -30,7 +30,7 @@ module _ {F : Type 0} (st : List (Place F)) where
 -- no place stands twice
 abbrev pub Apart : List ℕ → Type 0
 Apart [] = Unit {0}
-Apart (p ∷ ps) = All (λ (q : ℕ). q ≢ p) ps × Apart ps
+Apart (p ∷ ps) = AllByRecursion (λ (q : ℕ). q ≢ p) ps × Apart ps
 
 -- the places are emptied
 abbrev pub cleared : {F : Type 0} → List (Place F) → List ℕ → List (Place F)

@@ -1,7 +1,7 @@
 -- The verdict decides the conditions.
 use Rattle.std.proofs.Common.{◌≡◌, ℕ, zero, suc, ◌≤◌, Bool, true, cond, ◌&&◌, ◌⊎◌, List, [], ◌∷◌, length, get_or, set, replicate, ℤ, pos, ◌≤ℤ◌, ◌<ℤ◌, Decides, sym, refl, ap, ◌∙◌, subst, inl, inr, ⊎_elim, arith}
 use lib.Signed.{lt_z, le_z}
-use Rattle.std.specs.List.{AllByRecursion as All}
+use Rattle.std.specs.List.{AllByRecursion}
 use Rattle.std.proofs.lemmas.List.{get_or-set_same, get_or-set_other, get_or_past, length-set, ext_get_or}
 use Rattle.std.proofs.lemmas.Int.{ints}
 use Rattle.std.proofs.lemmas.Bool.{cases_Bool, cases_eq, cases_lt, and_parts, and_from, false≢true}
@@ -41,7 +41,7 @@ compares_decides Less a b = lt_decides a b
 compares_decides AtMost a b = le_decides a b
 
 module _ {X : Type 0} (p : X → Bool) (P : X → Type 0) (each : (x : X) → Decides (p x) (P x)) where
-  every_decides : (xs : List X) → Decides (every p xs) (All P xs)
+  every_decides : (xs : List X) → Decides (every p xs) (AllByRecursion P xs)
   every_decides = Decides-by_and p P (every p) each refl (λ _ _. refl)
 
 fit_decides : (hs : List Head) (fs : List Meaning) → Decides (all_fit hs fs) (Fit hs fs)
@@ -52,15 +52,15 @@ fit_decides (h ∷ hs) (f ∷ fs) =
     Decides-and (fits_head h f) (all_fit hs fs) (Decides-and _ _ (Decides-eqb h.name f.name) (Decides-eqb (amount h.args) f.count)) (fit_decides hs fs)
 
 module _ (ns : List ℤ) where
-  numbers_decide : (ms : List Met) → Decides (agree ns ms) (All (λ (m : Met). operand_value ns m.operand ≡ m.number) ms)
+  numbers_decide : (ms : List Met) → Decides (agree ns ms) (AllByRecursion (λ (m : Met). operand_value ns m.operand ≡ m.number) ms)
   numbers_decide = every_decides (λ (m : Met). equal (operand_value ns m.operand) m.number) (λ (m : Met). operand_value ns m.operand ≡ m.number) (λ m. equal_decides (operand_value ns m.operand) m.number)
 
-  guards_decide : (gs : List Guard) → Decides (every (holds ns) gs) (All (λ (g : Guard). Compares g.test (term_value ns g.left) (term_value ns g.right)) gs)
+  guards_decide : (gs : List Guard) → Decides (every (holds ns) gs) (AllByRecursion (λ (g : Guard). Compares g.test (term_value ns g.left) (term_value ns g.right)) gs)
   guards_decide = every_decides (holds ns) (λ (g : Guard). Compares g.test (term_value ns g.left) (term_value ns g.right)) (λ g. compares_decides g.test (term_value ns g.left) (term_value ns g.right))
 
   inside_decides : (low high : ℤ) (r : Parts) → Decides (every (fact_within low high ns) r.body) (Inside low high r ns)
   inside_decides low high r =
-      every_decides (fact_within low high ns) (λ (b : BodyFact). All (λ (t : Term). (low ≤ℤ term_value ns t) × (term_value ns t ≤ℤ high)) (listed b.args)) (λ b. every_decides (λ (t : Term). within low high (term_value ns t)) (λ (t : Term). (low ≤ℤ term_value ns t) × (term_value ns t ≤ℤ high)) (λ t. Decides-and (le_z low (term_value ns t)) (le_z (term_value ns t) high) (le_decides low (term_value ns t)) (le_decides (term_value ns t) high)) (listed b.args)) r.body
+      every_decides (fact_within low high ns) (λ (b : BodyFact). AllByRecursion (λ (t : Term). (low ≤ℤ term_value ns t) × (term_value ns t ≤ℤ high)) (listed b.args)) (λ b. every_decides (λ (t : Term). within low high (term_value ns t)) (λ (t : Term). (low ≤ℤ term_value ns t) × (term_value ns t ≤ℤ high)) (λ t. Decides-and (le_z low (term_value ns t)) (le_z (term_value ns t) high) (le_decides low (term_value ns t)) (le_decides (term_value ns t) high)) (listed b.args)) r.body
 
 -- ---- what binding does to the values
 
@@ -111,7 +111,7 @@ bind_one_agrees ρ ns (Var w) n v l e h =
 bind_one_agrees ρ ns (Const c) n v l e h =
     elim h [ inl was ↦ was | inr here ↦ (let z : ◌≡◌ {A = ℕ} 0 1 = cc in absurd (omega arith)) ]
 
-bind_all_is : (ρ ns : List ℤ) (ms : List Met) → length ns ≡ length ρ → All (λ (m : Met). operand_value ρ m.operand ≡ m.number) ms → ((v : ℕ) → (get_or ns v (pos 0) ≡ get_or ρ v (pos 0)) ⊎ Stands v ms) → bind_all ns ms ≡ ρ
+bind_all_is : (ρ ns : List ℤ) (ms : List Met) → length ns ≡ length ρ → AllByRecursion (λ (m : Met). operand_value ρ m.operand ≡ m.number) ms → ((v : ℕ) → (get_or ns v (pos 0) ≡ get_or ρ v (pos 0)) ⊎ Stands v ms) → bind_all ns ms ≡ ρ
 bind_all_is ρ ns [] l a h =
     ext_get_or (pos 0) ns ρ l (λ i _. ⊎_elim (λ (e : get_or ns i (pos 0) ≡ get_or ρ i (pos 0)). e) (λ (n : ⊥). absurd n) (h i))
 bind_all_is ρ ns (m ∷ ms) l a h =

@@ -1,6 +1,6 @@
 -- The conditions for applying in so many words. Nothing here computes: that `verdict` decides them is proved.
 use Rattle.std.specs.Prelude.{◌≡◌, ℕ, ◌⊎◌, List, [], ◌∷◌, length, ℤ, pos, ◌≤ℤ◌, ◌<ℤ◌, slice_index_or}
-use Rattle.std.specs.List.{AllByRecursion as All}
+use Rattle.std.specs.List.{AllByRecursion}
 use Rattle.facts.specs.Meanings.{Meaning}
 use Rattle.grammar.specs.declared.part.Operand.TheVariants.{Var}
 use Rattle.grammar.specs.declared.part.Test.{Test}
@@ -39,15 +39,15 @@ pub record Matched (r : Parts) (fs : List Meaning) (ns : List ℤ) : Type 0 wher
   pub eight : length ns ≡ 8
   pub fit : Fit (heads r) fs
   -- each operand, constant or variable, is the number that it meets, wherever it stands in the heads
-  pub numbers : All (λ (m : Met). operand_value ns m.operand ≡ m.number) (met (heads r) fs)
+  pub numbers : AllByRecursion (λ (m : Met). operand_value ns m.operand ≡ m.number) (met (heads r) fs)
   -- a variable that stands in no head is 0
   pub others : (v : ℕ) → Stands v (met (heads r) fs) ⊎ (slice_index_or ns v (pos 0) ≡ pos 0)
-  pub guards : All (λ (g : Guard). Compares g.test (term_value ns g.left) (term_value ns g.right)) r.guards
+  pub guards : AllByRecursion (λ (g : Guard). Compares g.test (term_value ns g.left) (term_value ns g.right)) r.guards
 
 -- every body value lies between the ends
 abbrev pub Inside : ℤ → ℤ → Parts → List ℤ → Type 0
 Inside low high r ns =
-    All (λ (b : BodyFact). All (λ (t : Term). (low ≤ℤ term_value ns t) × (term_value ns t ≤ℤ high)) (listed b.args)) r.body
+    AllByRecursion (λ (b : BodyFact). AllByRecursion (λ (t : Term). (low ≤ℤ term_value ns t) × (term_value ns t ≤ℤ high)) (listed b.args)) r.body
 
 -- what each verdict says
 abbrev pub Decided : ℤ → ℤ → Parts → List Meaning → Verdict → Type 0

@@ -1,6 +1,6 @@
 -- The words of a rule after its heads, and its faults.
 use Rattle.std.proofs.Common.{◌≡◌, ℕ, suc, ◌-◌, ◌<◌, ◌≤◌, true, false, List, [], ◌∷◌, ◌++◌, length, get_or, take, drop, sym, refl, ap, ◌∙◌, subst, arith, length-append, length-drop}
-use Rattle.std.specs.List.{AllByRecursion as All}
+use Rattle.std.specs.List.{AllByRecursion}
 use Rattle.std.proofs.lemmas.List.{take_all}
 use Rattle.facts.specs.Lists.{Nth}
 use Rattle.facts.proofs.Nths.{nth_within, nth_get_or}
@@ -30,14 +30,14 @@ module _ (r : Parts) (ws : List ℕ) (n : ℕ) (e : ws ≡ rule_words r) (h : n 
       let d : drop n ws ≡ tail_words r = ap (λ (k : ℕ). drop k ws) m ∙ ap (drop (suc (length (heads_words r)))) e ∙ drop_front (heads_words r) (tail_words r) in
       take_all (length ws - n) (drop n ws) (simp length-drop (omega arith)) ∙ d
 
-  pub tail_free : (m : ℕ) (us : List ℕ) → us ≡ take (length ws - n) (drop n ws) → m < length us → free r (get_or us m 0) ≡ true → All (λ w. free r w ≡ false) (take m us) → FirstFree r m
+  pub tail_free : (m : ℕ) (us : List ℕ) → us ≡ take (length ws - n) (drop n ws) → m < length us → free r (get_or us m 0) ≡ true → AllByRecursion (λ w. free r w ≡ false) (take m us) → FirstFree r m
   tail_free m us f b t a =
       let g : us ≡ tail_words r = f ∙ tail_slice in
       record {
         word = get_or us m 0;
         stands = subst (λ (xs : List ℕ). Nth xs m (get_or us m 0)) g (nth_get_or us m 0 b);
         unbound = t;
-        first = subst (λ (xs : List ℕ). All (λ w. free r w ≡ false) (take m xs)) g a;
+        first = subst (λ (xs : List ℕ). AllByRecursion (λ w. free r w ≡ false) (take m xs)) g a;
       }
 
 -- a fault's word is one of the rule's

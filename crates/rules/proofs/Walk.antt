@@ -1,7 +1,7 @@
 -- Going through the rules of a well-formed table and its words, rule after rule.
 use Rattle.std.proofs.Common.{◌≡◌, ℕ, zero, suc, ◌+◌, ◌-◌, ◌<◌, ◌≤◌, List, [], ◌∷◌, ◌++◌, map, length, get_or, take, drop, sym, refl, ap, ◌∙◌, subst, append_assoc, add-one, arith, length-append}
 use lib.Seq.{take-append_seam}
-use Rattle.std.specs.List.{flat_map, AllByRecursion as All}
+use Rattle.std.specs.List.{flat_map, AllByRecursion}
 use Rattle.std.proofs.ByRecursion.{All-push}
 use Rattle.facts.specs.Lists.{Nth}
 use Rattle.grammar.specs.declared.rule.Rule.{Rule}
@@ -61,9 +61,9 @@ module _ (rs : List Parts) (i : ℕ) (r : Parts) (n : Nth rs i r) where
       ∙ ap (λ (k : ℕ). rule_at rs i + k) (length-append (rule_words r) [] ∙ omega arith) in
       omega (arith, rule_length r)
 
-  pub sound_more : All Sound (take i rs) → Sound r → All Sound (take (i + 1) rs)
+  pub sound_more : AllByRecursion Sound (take i rs) → Sound r → AllByRecursion Sound (take (i + 1) rs)
   sound_more a s =
-      subst (λ (v : List Parts). All Sound v) (sym (ap (λ (k : ℕ). take k rs) (add-one i) ∙ take_nth rs i r n)) (All-push Sound (take i rs) r a s)
+      subst (λ (v : List Parts). AllByRecursion Sound v) (sym (ap (λ (k : ℕ). take k rs) (add-one i) ∙ take_nth rs i r n)) (All-push Sound (take i rs) r a s)
 
   pub rising_more : Rising 0 (take i rs) → last_label 0 (take i rs) < r.label → Rising 0 (take (i + 1) rs)
   rising_more h l =

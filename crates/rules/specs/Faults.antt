@@ -1,6 +1,6 @@
 -- What is wrong with a well-formed table whose rules are not all valid.
 use Rattle.std.specs.Prelude.{◌≡◌, ℕ, suc, ◌+◌, ◌≤◌, List, length, take}
-use Rattle.std.specs.List.{AllByRecursion as All}
+use Rattle.std.specs.List.{AllByRecursion}
 use Rattle.facts.specs.Lists.{Nth}
 use Rattle.grammar.specs.Parts.{Parts}
 use Rattle.grammar.specs.Writing.{heads_words}
@@ -24,7 +24,7 @@ pub record FirstFault (rs : List Parts) (fault : LoadFault) (place : ℕ) : Type
   pub rule : Parts
   pub offset : ℕ
   pub stands : Nth rs index rule
-  pub sound : All Sound (take index rs)
+  pub sound : AllByRecursion Sound (take index rs)
   pub rising : Rising 0 (take index rs)
   pub wrong : RuleFault rule (last_label 0 (take index rs)) fault offset
   pub at : place ≡ rule_at rs index + offset

@@ -1,5 +1,5 @@
 ghost use Rattle.std.specs.Prelude.{◌≡◌, ℕ, ◌+◌, ◌-◌, ◌*◌, ◌/◌, ◌%◌, ◌^◌, ◌<◌, ◌≤◌, true, false, List, [], ◌∷◌, ◌++◌, map, length, take, vec_len, sum_by, MatchOption, slice_index};
-ghost use Rattle.std.specs.List.{AllByRecursion as All};
+ghost use Rattle.std.specs.List.{AllByRecursion};
 ghost use Rattle.grammar.specs.Parts.{parts};
 ghost use Rattle.grammar.specs.Sizes.{heads_size, rule_size};
 ghost use Rattle.grammar.specs.Validity.{some, is_var, head_has, binds, free, Sound, Rising};
@@ -74,7 +74,7 @@ fn is_free(rule: &Rule, bits: u32) -> bool
 
 // The first of the words that is a free variable.
 fn first_free(rule: &Rule, ws: &[u32]) -> Option<usize>
-    ensures { MatchOption result (All (λ w. free (parts rule.now) w ≡ false) ws.now) (λ n. (n < length ws.now) × (free (parts rule.now) (slice_index ws.now n) ≡ true) × All (λ w. free (parts rule.now) w ≡ false) (take n ws.now)) }
+    ensures { MatchOption result (AllByRecursion (λ w. free (parts rule.now) w ≡ false) ws.now) (λ n. (n < length ws.now) × (free (parts rule.now) (slice_index ws.now n) ≡ true) × AllByRecursion (λ w. free (parts rule.now) w ≡ false) (take n ws.now)) }
 {
     for (i, word) in ws.iter().enumerate() {
         if is_free(rule, *word) {
@@ -124,7 +124,7 @@ fn rule_fault(rule: &Rule, last: u16, ws: &[u32]) -> Option<(LoadFault, usize)>
 pub(crate) fn first_fault(rules: &Vec<Rule>, ws: &[u32]) -> Option<(LoadFault, usize)>
     requires formed { Formed standard (map parts rules.now.items) }
     requires begins { (us : List ℕ) × (ws.now ≡ written (map parts rules.now.items) ++ us) }
-    ensures { MatchOption result (All Sound (map parts rules.now.items) × Rising 0 (map parts rules.now.items)) (λ x. FirstFault (map parts rules.now.items) x.0 x.1) }
+    ensures { MatchOption result (AllByRecursion Sound (map parts rules.now.items) × Rising 0 (map parts rules.now.items)) (λ x. FirstFault (map parts rules.now.items) x.0 x.1) }
 {
     let mut at = 0;
     let mut last = 0;

@@ -1,6 +1,6 @@
 -- What the words so far are the writing of, after a part more.
 use Rattle.std.proofs.Common.{◌≡◌, ℕ, ◌+◌, Bool, true, false, cond, not, eqb, List, [], ◌∷◌, ◌++◌, length, take, sym, refl, ap, ◌∙◌, subst, ap₂, arith}
-use Rattle.std.specs.List.{flat_map, AllByRecursion as All}
+use Rattle.std.specs.List.{flat_map, AllByRecursion}
 use Rattle.std.proofs.lemmas.List.{append-nil, append_assoc, length-append, length_push, flat_map_more}
 use Rattle.std.proofs.ByRecursion.{All-append, All-push, All-weaker}
 use Rattle.words.specs.Words.{kind_of, payload_of, word}
@@ -53,7 +53,7 @@ more_variables bits h xs ys e f v =
     has_head bits v h ∙ ap (λ (b : Bool). cond (head_has v h) true b) (f v) ∙ sym (some_push (head_has v) xs h) ∙ sym (ap (some (head_has v)) e)
 
 -- words whose variables are among the bits have no free variable
-within_bound : (bits : ℕ) (r : Parts) (ws : List ℕ) → ((v : ℕ) → has bits v ≡ binds r v) → Within bits ws → All (λ w. free r w ≡ false) ws
+within_bound : (bits : ℕ) (r : Parts) (ws : List ℕ) → ((v : ℕ) → has bits v ≡ binds r v) → Within bits ws → AllByRecursion (λ w. free r w ≡ false) ws
 within_bound bits r ws f h =
     All-weaker (λ w. free_of bits w ≡ false) (λ w. free r w ≡ false)
     (λ w e. sym (ap (λ (b : Bool). cond (eqb (kind_of w) 6) (not b) false) (f (payload_of w))) ∙ e) ws h
@@ -106,7 +106,7 @@ module _ (t : Tally) (m m' : List ℕ) (rs : List Parts) (r : Parts) (o : Opened
           few_heads = omega (arith, o.heads, length_push r.kept h, w.numbers.1);
           few_guards = o.few_guards;
           few_body = o.few_body;
-          bound = subst (λ (v : List ℕ). All (λ w. free (with_kept r h) w ≡ false) v) (sym z) tt;
+          bound = subst (λ (v : List ℕ). AllByRecursion (λ w. free (with_kept r h) w ≡ false) v) (sym z) tt;
         },
         s,
       )
@@ -139,7 +139,7 @@ module _ (t : Tally) (m m' : List ℕ) (rs : List Parts) (r : Parts) (o : Opened
           few_heads = omega (arith, o.heads, length_push r.taken h, w.numbers.1);
           few_guards = o.few_guards;
           few_body = o.few_body;
-          bound = subst (λ (v : List ℕ). All (λ w. free (with_taken r h) w ≡ false) v) (sym z) tt;
+          bound = subst (λ (v : List ℕ). AllByRecursion (λ w. free (with_taken r h) w ≡ false) v) (sym z) tt;
         },
         (omega (arith, length_push r.taken h), s.0, s.1),
       )
@@ -180,7 +180,7 @@ module _ (t : Tally) (m m' : List ℕ) (rs : List Parts) (r : Parts) (o : Opened
           few_guards = omega (arith, o.guards, length_push r.guards g, w.numbers.1);
           few_body = o.few_body;
           bound =
-              subst (λ (v : List ℕ). All (λ w. free r w ≡ false) v) (sym z)
+              subst (λ (v : List ℕ). AllByRecursion (λ w. free r w ≡ false) v) (sym z)
               (All-append _ (tail_words r) (guard_words g) o.bound (within_bound t.variables r (guard_words g) o.variables w.variables));
         },
         s,
@@ -218,7 +218,7 @@ module _ (t : Tally) (m m' : List ℕ) (rs : List Parts) (r : Parts) (o : Opened
           few_guards = o.few_guards;
           few_body = omega (arith, o.body, length_push r.body b, w.numbers.1);
           bound =
-              subst (λ (v : List ℕ). All (λ w. free r w ≡ false) v) (sym z)
+              subst (λ (v : List ℕ). AllByRecursion (λ w. free r w ≡ false) v) (sym z)
               (All-append _ (tail_words r) (body_words b) o.bound (within_bound t.variables r (body_words b) o.variables w.variables));
         },
         s,

@@ -1,6 +1,6 @@
 -- The rules of a loaded table, as they are written.
 use Rattle.std.proofs.Common.{◌≡◌, ℕ, ◌+◌, ◌<◌, ◌≤◌, List, [], ◌∷◌, ◌++◌, map, length, drop, set, sym, ap, ◌∙◌, subst, arith}
-use Rattle.std.specs.List.{flat_map, AllByRecursion as All}
+use Rattle.std.specs.List.{flat_map, AllByRecursion}
 use Rattle.std.proofs.lemmas.List.{length-map, length_push}
 use Rattle.words.specs.Words.{word}
 use Rattle.grammar.specs.declared.rule.Rule.{Rule}
@@ -11,13 +11,13 @@ use Rattle.writer.specs.Tables.{words_of, FormedRuleOf}
 use Rattle.writer.proofs.Places.{Puts, placed_push}
 use Rattle.writer.proofs.Rows.{joined_map}
 
-all_unmap : {X Y : Type 0} (P : Y → Type 0) (f : X → Y) (xs : List X) → All P (map f xs) → All (λ x. P (f x)) xs
+all_unmap : {X Y : Type 0} (P : Y → Type 0) (f : X → Y) (xs : List X) → AllByRecursion P (map f xs) → AllByRecursion (λ x. P (f x)) xs
 all_unmap P f [] a = tt
 all_unmap P f (x ∷ xs) a = (a.0, all_unmap P f xs a.1)
 
 module _ (ys : List Rule) (rs : List Parts) (e : map parts ys ≡ rs) where
-  pub each_formed : Valid rs → All FormedRuleOf ys
-  each_formed d = all_unmap (FormedRule standard) parts ys (subst (All (FormedRule standard)) (sym e) d.formed.each)
+  pub each_formed : Valid rs → AllByRecursion FormedRuleOf ys
+  each_formed d = all_unmap (FormedRule standard) parts ys (subst (AllByRecursion (FormedRule standard)) (sym e) d.formed.each)
 
   pub few_rules : Valid rs → length ys ≤ 32
   few_rules d = let l = sym (length-map ys parts) ∙ ap length e in omega (arith, l, d.formed.few)

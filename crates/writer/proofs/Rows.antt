@@ -1,6 +1,6 @@
 -- Parts and rules of a list, written from an index on.
 use Rattle.std.proofs.Common.{◌≡◌, ℕ, ◌+◌, ◌<◌, ◌≤◌, List, [], ◌∷◌, ◌++◌, map, length, get_or, drop, set, sym, refl, ap, ◌∙◌, subst, ap₂, arith}
-use Rattle.std.specs.List.{flat_map, AllByRecursion as All}
+use Rattle.std.specs.List.{flat_map, AllByRecursion}
 use Rattle.std.proofs.lemmas.List.{append_assoc, length-append, drop_more, drop_all}
 use Rattle.writer.proofs.Places.{Puts, puts_none, puts_one, puts_more, room_on}
 
@@ -18,11 +18,11 @@ module _ {X : Type 0} (f : X → List ℕ) (xs : List X) (i : ℕ) where
     words : flat_map f (drop i xs) ≡ f x ++ flat_map f (drop (i + 1) xs)
     words = ap (flat_map f) split
 
-    pub all_here : (P : X → Type 0) → All P (drop i xs) → P x
-    all_here P a = (subst (All P) split a).0
+    pub all_here : (P : X → Type 0) → AllByRecursion P (drop i xs) → P x
+    all_here P a = (subst (AllByRecursion P) split a).0
 
-    pub all_next : (P : X → Type 0) → All P (drop i xs) → All P (drop (i + 1) xs)
-    all_next P a = (subst (All P) split a).1
+    pub all_next : (P : X → Type 0) → AllByRecursion P (drop i xs) → AllByRecursion P (drop (i + 1) xs)
+    all_next P a = (subst (AllByRecursion P) split a).1
 
     pub size_more : (m n : ℕ) → m ≡ length (f x) → n ≡ length (flat_map f (drop (i + 1) xs)) → m + n ≡ length (flat_map f (drop i xs))
     size_more m n p q = ap₂ (λ (a b : ℕ). a + b) p q ∙ sym (length-append (f x) (flat_map f (drop (i + 1) xs))) ∙ sym (ap length words)

@@ -1,6 +1,6 @@
 -- What the words so far are the writing of.
 use Rattle.std.specs.Prelude.{◌≡◌, ℕ, ◌+◌, ◌^◌, ◌<◌, ◌≤◌, List, [], ◌∷◌, ◌++◌, length, take, drop}
-use Rattle.std.specs.List.{flat_map, AllByRecursion as All}
+use Rattle.std.specs.List.{flat_map, AllByRecursion}
 use Rattle.grammar.specs.declared.part.Head.{Head}
 use Rattle.grammar.specs.declared.part.Guard.{Guard}
 use Rattle.grammar.specs.declared.part.BodyFact.{BodyFact}
@@ -43,10 +43,10 @@ pub record Opened (t : Tally) (memory : List ℕ) (rs : List Parts) (r : Parts) 
   pub few : length rs < 32
   pub rising : last_label 0 rs < r.label
   pub small : r.label < 2 ^ 16
-  pub good_kept : All FormedHead r.kept
-  pub good_taken : All FormedHead r.taken
-  pub good_guards : All FormedGuard r.guards
-  pub good_body : All FormedBody r.body
+  pub good_kept : AllByRecursion FormedHead r.kept
+  pub good_taken : AllByRecursion FormedHead r.taken
+  pub good_guards : AllByRecursion FormedGuard r.guards
+  pub good_body : AllByRecursion FormedBody r.body
   pub few_heads : length r.kept + length r.taken ≤ 3
   pub few_guards : length r.guards ≤ 4
   pub few_body : length r.body ≤ 3

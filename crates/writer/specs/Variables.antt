@@ -1,6 +1,6 @@
 -- The variables of a rule's heads as the bits of one number.
 use Rattle.std.specs.Prelude.{◌≡◌, ℕ, ◌/◌, ◌%◌, ◌^◌, Bool, false, cond, not, List, [], ◌∷◌, ◌==◌, bit_or}
-use Rattle.std.specs.List.{AllByRecursion as All}
+use Rattle.std.specs.List.{AllByRecursion}
 use Rattle.words.specs.Words.{kind_of, payload_of}
 use Rattle.grammar.specs.declared.part.Operand.{Operand}
 use Rattle.grammar.specs.declared.part.Operand.TheVariants.{Var, Const}
@@ -29,4 +29,4 @@ free_of bits w = cond (kind_of w == 6) (not (has bits (payload_of w))) false
 
 -- every variable of these words is among them
 abbrev pub Within : ℕ → List ℕ → Type 0
-Within bits ws = All (λ w. free_of bits w ≡ false) ws
+Within bits ws = AllByRecursion (λ w. free_of bits w ≡ false) ws

@@ -1,5 +1,5 @@
 ghost use Rattle.std.specs.Prelude.{◌≡◌, ℕ, ◌+◌, ◌-◌, ◌*◌, ◌/◌, ◌%◌, ◌^◌, ◌<◌, ◌≤◌, List, [], ◌∷◌, MatchOption};
-ghost use Rattle.std.specs.List.{flat_map, AllByRecursion as All};
+ghost use Rattle.std.specs.List.{flat_map, AllByRecursion};
 ghost use Rattle.words.specs.Words.{word, tag};
 ghost use Rattle.grammar.specs.Parts.{listed, amount};
 ghost use Rattle.grammar.specs.Writing.{operand_words, term_words, head_words, guard_words, body_words, test_number, FormedOperand, FormedTerm, FormedHead, FormedGuard, FormedBody};
@@ -88,7 +88,7 @@ impl Argument for Term {
 }
 
 fn each_words<A: Argument>(args: Args<A>) -> Option<Args<Args<u32>>>
-    ensures { MatchOption result (All A.Argument.formed (listed args) → ⊥) (λ ws. All A.Argument.formed (listed args) × (flat_map listed (listed ws) ≡ flat_map A.Argument.words (listed args))) }
+    ensures { MatchOption result (AllByRecursion A.Argument.formed (listed args) → ⊥) (λ ws. AllByRecursion A.Argument.formed (listed args) × (flat_map listed (listed ws) ≡ flat_map A.Argument.words (listed args))) }
 {
     match args {
         Args::Zero => Some(Args::Zero),
@@ -123,7 +123,7 @@ fn count<A: Copy>(args: Args<A>) -> u8
 
 // The words of a head or a body fact.
 fn fact_code<A: Argument>(kind: Kind, name: u8, args: Args<A>) -> Option<Code>
-    ensures { MatchOption result (All A.Argument.formed (listed args) → ⊥) (λ c. All A.Argument.formed (listed args) × (code_words c ≡ word (tag kind) (name * 2 ^ 16 + amount args) ∷ flat_map A.Argument.words (listed args))) }
+    ensures { MatchOption result (AllByRecursion A.Argument.formed (listed args) → ⊥) (λ c. AllByRecursion A.Argument.formed (listed args) × (code_words c ≡ word (tag kind) (name * 2 ^ 16 + amount args) ∷ flat_map A.Argument.words (listed args))) }
 {
     let first = fact_word(kind, name, count(args))?;
     let rest = each_words(args)?;

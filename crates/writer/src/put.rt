@@ -1,5 +1,5 @@
 ghost use Rattle.std.specs.Prelude.{◌≡◌, ℕ, ◌+◌, ◌-◌, ◌*◌, ◌/◌, ◌%◌, ◌^◌, ◌<◌, ◌≤◌, List, [], ◌∷◌, length, Decides};
-ghost use Rattle.std.specs.List.{flat_map, AllByRecursion as All};
+ghost use Rattle.std.specs.List.{flat_map, AllByRecursion};
 ghost use Rattle.grammar.specs.Parts.{listed, amount};
 ghost use Rattle.grammar.specs.Writing.{FormedOperand, FormedHead};
 ghost use Rattle.writer.specs.Memory.{code_words, placed};

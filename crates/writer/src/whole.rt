@@ -1,5 +1,5 @@
 ghost use Rattle.std.specs.Prelude.{◌≡◌, ℕ, ◌+◌, ◌-◌, ◌*◌, ◌/◌, ◌%◌, ◌^◌, ◌<◌, ◌≤◌, List, [], ◌∷◌, ◌++◌, length, drop, vec_len, MatchResult};
-ghost use Rattle.std.specs.List.{flat_map, AllByRecursion as All};
+ghost use Rattle.std.specs.List.{flat_map, AllByRecursion};
 ghost use Rattle.words.specs.Words.{tag};
 ghost use Rattle.grammar.specs.Writing.{written};
 ghost use Rattle.rules.specs.Loading.{rules_of};
@@ -42,7 +42,7 @@ fn put_part<P: Part>(memory: &mut [u32], at: usize, part: P, kind: Kind) -> usiz
 
 // How many words the parts from an index on have.
 fn parts_size<P: Part>(parts: &Vec<P>, kind: Kind, from: usize) -> usize
-    requires formed { ∥ All P.Part.formed (drop from parts.now.items) ∥₁ }
+    requires formed { ∥ AllByRecursion P.Part.formed (drop from parts.now.items) ∥₁ }
     requires few { vec_len parts.now ≤ 4 }
     ensures value { result ≡ length (flat_map (P.Part.words (tag kind)) (drop from parts.now.items)) }
     ensures bound { result ≤ 10 * (vec_len parts.now - from) }
@@ -62,7 +62,7 @@ fn put_parts<P: Part>(
     kind: Kind,
     from: usize,
 ) -> usize
-    requires formed { ∥ All P.Part.formed (drop from parts.now.items) ∥₁ }
+    requires formed { ∥ AllByRecursion P.Part.formed (drop from parts.now.items) ∥₁ }
     requires room { at + length (flat_map (P.Part.words (tag kind)) (drop from parts.now.items)) ≤ length memory.old }
     ensures memory { memory.new ≡ placed at (flat_map (P.Part.words (tag kind)) (drop from parts.now.items)) memory.old }
     ensures value { result ≡ at + length (flat_map (P.Part.words (tag kind)) (drop from parts.now.items)) }
@@ -100,7 +100,7 @@ fn put_rule(memory: &mut [u32], at: usize, rule: &Rule) -> usize
 
 // How many words the rules from an index on have.
 fn rules_size(rules: &Vec<Rule>, from: usize) -> usize
-    requires formed { ∥ All FormedRuleOf (drop from rules.now.items) ∥₁ }
+    requires formed { ∥ AllByRecursion FormedRuleOf (drop from rules.now.items) ∥₁ }
     requires few { vec_len rules.now ≤ 32 }
     ensures value { result ≡ length (flat_map words_of (drop from rules.now.items)) }
     ensures bound { result ≤ 200 * (vec_len rules.now - from) }
@@ -113,7 +113,7 @@ fn rules_size(rules: &Vec<Rule>, from: usize) -> usize
 
 // Puts the words of the rules from an index on.
 fn put_rules(memory: &mut [u32], at: usize, rules: &Vec<Rule>, from: usize) -> usize
-    requires formed { ∥ All FormedRuleOf (drop from rules.now.items) ∥₁ }
+    requires formed { ∥ AllByRecursion FormedRuleOf (drop from rules.now.items) ∥₁ }
     requires room { at + length (flat_map words_of (drop from rules.now.items)) ≤ length memory.old }
     ensures memory { memory.new ≡ placed at (flat_map words_of (drop from rules.now.items)) memory.old }
     ensures value { result ≡ at + length (flat_map words_of (drop from rules.now.items)) }

@@ -1,5 +1,5 @@
 use Rattle.std.proofs.Common.{ℕ, suc, ◌+◌, ◌≤◌, List, map, length, vec_items, ap, subst, arith}
-use Rattle.std.specs.List.{AllByRecursion as All}
+use Rattle.std.specs.List.{AllByRecursion}
 use Rattle.std.proofs.lemmas.List.{take_all, length-map}
 use Rattle.facts.specs.Lists.{Nth}
 use Rattle.facts.proofs.Nths.{all_nth}
@@ -97,4 +97,4 @@ pub returns : goal.returns
 returns c =
     let l : length (map parts (vec_items c.args.rules.now)) ≤ c.loop-rule.rule-index = omega (arith, length-map (vec_items c.args.rules.now) parts, ap length c.deref-rule-items.ensures.value, c.loop-rule-test.false) in
     let e = take_all c.loop-rule.rule-index (map parts (vec_items c.args.rules.now)) l in
-    (subst (λ (v : List Parts). All Sound v) e c.loop-rule.invariant.2, subst (λ (v : List Parts). Rising 0 v) e c.loop-rule.invariant.3)
+    (subst (λ (v : List Parts). AllByRecursion Sound v) e c.loop-rule.invariant.2, subst (λ (v : List Parts). Rising 0 v) e c.loop-rule.invariant.3)

@@ -1,5 +1,5 @@
 use Rattle.std.proofs.Common.{◌≡◌, ℕ, false, List, sym, subst}
-use Rattle.std.specs.List.{AllByRecursion as All}
+use Rattle.std.specs.List.{AllByRecursion}
 use Rattle.std.proofs.lemmas.List.{take_all}
 use Rattle.std.proofs.ByRecursion.{All-more}
 use Rattle.grammar.specs.Parts.{parts}
@@ -13,4 +13,4 @@ loop-i-preserved c =
 
 pub returns : goal.returns
 returns c =
-    subst (λ (ws : List ℕ). All (λ w. free (parts c.args.rule.now) w ≡ false) ws) (take_all c.loop-i.i c.args.ws.now c.loop-i-test.false) c.loop-i.invariant
+    subst (λ (ws : List ℕ). AllByRecursion (λ w. free (parts c.args.rule.now) w ≡ false) ws) (take_all c.loop-i.i c.args.ws.now c.loop-i-test.false) c.loop-i.invariant

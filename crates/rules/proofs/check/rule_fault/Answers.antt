@@ -1,5 +1,5 @@
 use Rattle.std.proofs.Common.{◌≡◌, ℕ, ◌<◌, false, List, length, vec_items, refl, subst, arith}
-use Rattle.std.specs.List.{AllByRecursion as All}
+use Rattle.std.specs.List.{AllByRecursion}
 use Rattle.std.proofs.lemmas.Bool.Decides.{nat_tests}
 use Rattle.grammar.specs.Parts.{parts}
 use Rattle.grammar.specs.Validity.{free, Bound}
@@ -25,7 +25,7 @@ returns-in-Some c =
 pub returns-then-is_empty : goal.returns-then-is_empty
 returns-then-is_empty c =
     let b : Bound (parts c.args.rule.now)
-    = subst (λ (xs : List ℕ). All (λ w. free (parts c.args.rule.now) w ≡ false) xs)
+    = subst (λ (xs : List ℕ). AllByRecursion (λ w. free (parts c.args.rule.now) w ≡ false) xs)
     (tail_slice (parts c.args.rule.now) c.args.ws.now c.heads_size-heads.result c.requires.words c.heads_size-heads.ensures.value)
     c.in_default.ensures in
     let e = c.if-is_empty.ensures in
@@ -36,7 +36,7 @@ returns-then-is_empty c =
 pub returns-then-rule-last : goal.returns-then-rule-last
 returns-then-rule-last c =
     let b : Bound (parts c.args.rule.now)
-    = subst (λ (xs : List ℕ). All (λ w. free (parts c.args.rule.now) w ≡ false) xs)
+    = subst (λ (xs : List ℕ). AllByRecursion (λ w. free (parts c.args.rule.now) w ≡ false) xs)
     (tail_slice (parts c.args.rule.now) c.args.ws.now c.heads_size-heads.result c.requires.words c.heads_size-heads.ensures.value)
     c.in_default.ensures in
     let e = c.if-is_empty.ensures in
@@ -47,7 +47,7 @@ returns-then-rule-last c =
 pub returns : goal.returns
 returns c =
     let b : Bound (parts c.args.rule.now)
-    = subst (λ (xs : List ℕ). All (λ w. free (parts c.args.rule.now) w ≡ false) xs)
+    = subst (λ (xs : List ℕ). AllByRecursion (λ w. free (parts c.args.rule.now) w ≡ false) xs)
     (tail_slice (parts c.args.rule.now) c.args.ws.now c.heads_size-heads.result c.requires.words c.heads_size-heads.ensures.value)
     c.in_default.ensures in
     let e = c.if-is_empty.ensures in

@@ -1,6 +1,6 @@
 use Rattle.std.proofs.Common.{◌≡◌, ◌+◌, ◌<◌, length, drop, vec_items, sym, ap, ◌∙◌, arith, rules}
 use mathlib.Core.Logic.{∥∥₁_map}
-use Rattle.std.specs.List.{AllByRecursion as All}
+use Rattle.std.specs.List.{AllByRecursion}
 use Rattle.words.specs.Words.{tag}
 use Rattle.writer.proofs.Rows.{none_left, all_here, all_next, size_more}
 use Rattle.writer.proofs.whole.+parts_size.Goals as goal
@@ -21,7 +21,7 @@ pub parts_size-requires : goal.parts_size-requires
 parts_size-requires g t c κs within =
     let xs = vec_items c.args.parts.now in
     let l : length xs ≡ c.len.result = sym (c.len.ensures ∙ c.args.parts.now.ok.0) in
-    let h : ∥ All g.P.Part.formed (drop (c.args.from + 1) xs) ∥₁
+    let h : ∥ AllByRecursion g.P.Part.formed (drop (c.args.from + 1) xs) ∥₁
     = ∥∥₁_map c.requires.formed (all_next (g.P.Part.words (tag c.args.kind)) xs c.args.from c.index.result.now (omega (arith, l, c.if-from-len.false)) c.index.ensures g.P.Part.formed) in
     search rules
 

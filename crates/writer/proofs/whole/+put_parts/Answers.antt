@@ -1,6 +1,6 @@
 use Rattle.std.proofs.Common.{◌≡◌, ◌+◌, ◌<◌, ◌≤◌, length, drop, vec_items, sym, ◌∙◌, arith, rules}
 use mathlib.Core.Logic.{∥∥₁_map}
-use Rattle.std.specs.List.{flat_map, AllByRecursion as All}
+use Rattle.std.specs.List.{flat_map, AllByRecursion}
 use Rattle.words.specs.Words.{tag}
 use Rattle.writer.proofs.Rows.{puts_end, all_here, all_next, room_here, room_next, puts_next}
 use Rattle.writer.proofs.whole.+put_parts.Goals as goal
@@ -29,7 +29,7 @@ put_parts-requires g t c κs within =
     let l : length xs ≡ c.len.result = sym (c.len.ensures ∙ c.args.parts.now.ok.0) in
     let h : c.args.from < length xs = omega (arith, l, c.if-from-len.false) in
     let m = c.args.memory.now in
-    let a : ∥ All g.P.Part.formed (drop (c.args.from + 1) xs) ∥₁ = ∥∥₁_map c.requires.formed (all_next (g.P.Part.words (tag c.args.kind)) xs c.args.from c.index.result.now h c.index.ensures g.P.Part.formed) in
+    let a : ∥ AllByRecursion g.P.Part.formed (drop (c.args.from + 1) xs) ∥₁ = ∥∥₁_map c.requires.formed (all_next (g.P.Part.words (tag c.args.kind)) xs c.args.from c.index.result.now h c.index.ensures g.P.Part.formed) in
     let r : c.put_part-at.result + length (flat_map (g.P.Part.words (tag c.args.kind)) (drop (c.args.from + 1) xs)) ≤ length c.put_part-at.new.memory
     = room_next (g.P.Part.words (tag c.args.kind)) xs c.args.from c.index.result.now h c.index.ensures c.args.at m c.requires.room c.put_part-at.result c.put_part-at.new.memory (c.put_part-at.ensures.memory, c.put_part-at.ensures.value) in
     search rules

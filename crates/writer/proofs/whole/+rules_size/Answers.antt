@@ -1,6 +1,6 @@
 use Rattle.std.proofs.Common.{◌≡◌, ◌+◌, ◌<◌, length, drop, vec_items, sym, ap, ◌∙◌, arith, rules}
 use mathlib.Core.Logic.{∥∥₁_map}
-use Rattle.std.specs.List.{AllByRecursion as All}
+use Rattle.std.specs.List.{AllByRecursion}
 use Rattle.writer.specs.Tables.{words_of, FormedRuleOf}
 use Rattle.writer.proofs.Rows.{none_left, all_here, all_next, size_more}
 use Rattle.writer.proofs.whole.+rules_size.Goals as goal
@@ -21,7 +21,7 @@ pub rules_size-requires : goal.rules_size-requires
 rules_size-requires t c =
     let xs = vec_items c.args.rules.now in
     let l : length xs ≡ c.len.result = sym (c.len.ensures ∙ c.args.rules.now.ok.0) in
-    let h : ∥ All FormedRuleOf (drop (c.args.from + 1) xs) ∥₁
+    let h : ∥ AllByRecursion FormedRuleOf (drop (c.args.from + 1) xs) ∥₁
     = ∥∥₁_map c.requires.formed (all_next words_of xs c.args.from c.index.result.now (omega (arith, l, c.if-from-len.false)) c.index.ensures FormedRuleOf) in
     search rules
 
