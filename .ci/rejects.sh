@@ -1,14 +1,16 @@
 #!/usr/bin/env bash
 # Source that must be rejected before any proof: each .ci/rejects/NAME.txt has what is expected (an error, or accepted) and a
-# function over the writer's states. It is tried as a small program over the writer's sources, in a folder outside of the
-# repository.
+# function over the writer's states. It is tried as a small program over the writer, in a copy outside of the repository; one
+# that must be accepted is proved there too.
 set -u
 root=$(cd "$(dirname "$0")/.." && pwd -P)
 work=$(mktemp -d) || exit 2
 trap 'rm -rf "$work"' EXIT
 for name in facts words grammar rules writer; do
     mkdir -p "$work/crates/$name"
-    cp -R "$root/crates/$name/src" "$root/crates/$name/specs" "$work/crates/$name/"
+    for part in src specs proofs; do
+        [ -d "$root/crates/$name/$part" ] && cp -R "$root/crates/$name/$part" "$work/crates/$name/"
+    done
     grep "^$name:" "$root/crates.txt" >>"$work/crates.txt"
 done
 echo 'sample: grammar writer' >>"$work/crates.txt"
@@ -24,7 +26,8 @@ for sample in "$root"/.ci/rejects/*.txt; do
         grep -v '^expect: ' "$sample"
         printf '\nfn main() {}\n'
     } >"$work/crates/sample/src/main.rt"
-    (cd "$work/crates/sample" && rt try) >"$work/log" 2>&1
+    [ "$expect" = accepted ] && how=check || how=try
+    (cd "$work/crates/sample" && rt $how) >"$work/log" 2>&1
     status=$?
     if [ "$expect" = accepted ]; then
         [ $status -eq 0 ] && found=yes || found=no

@@ -1,5 +1,5 @@
 -- What each call does and answers.
-use Rattle.std.specs.Prelude.{◌≡◌, ℕ, zero, suc, ◌+◌, ◌<◌, ◌≤◌, Bool, true, false, cond, List, [], ◌∷◌, ◌++◌, length, drop, set, nat_lt, slice_index, slice_set}
+use Rattle.std.specs.Prelude.{◌≡◌, ℕ, zero, suc, ◌+◌, ◌<◌, ◌≤◌, Bool, true, false, cond, List, [], ◌∷◌, ◌++◌, length, drop, nat_lt, slice_index, slice_set}
 use Rattle.facts.specs.Lists.{Nth}
 use Rattle.facts.specs.Places.{Place, empty, held}
 use Rattle.laws.specs.Rules.{Rules}
@@ -200,7 +200,7 @@ module _ {F R : Type 0} (T : Rules F R) where
         store = slice_set s.store p (held (s.given + 1) f);
         waiting = without i s.waiting;
         lanes =
-            set s.lanes l
+            slice_set s.lanes l
             (searching (record { place = p; number = s.given + 1; looks = 0; left = candidates T (length s.store) p f }));
         given = s.given + 1;
         capacity = s.capacity;
