@@ -18,6 +18,12 @@ const NOTHING: Head = Head {
     args: Args::Zero,
 };
 
+const ALWAYS: Guard = Guard {
+    test: Test::Equal,
+    left: Term::One(Operand::Const(0)),
+    right: Term::One(Operand::Const(0)),
+};
+
 const SAMPLE: [u32; 12] = [
     0x1000_0007,
     0x2001_0002,
@@ -115,6 +121,128 @@ fn exactly_long_enough_and_one_short(rt: HostRuntime) {
     let mut short = [5; 10];
     assert_eq!(rt; sample(&mut short), Err(Refusal::NoRoom));
     assert_eq!(rt; short[9], SAMPLE[9]);
+}
+
+// The first words of the sample, then what stood in the memory.
+fn first_words(count: usize) -> [u32; 12] {
+    let mut words = [5; 12];
+    for i in 0..12 {
+        if i < count {
+            words[i] = SAMPLE[i];
+        }
+    }
+    words
+}
+
+// In a memory of every length below, some call is one word or more short: it is refused, and puts no word.
+#[test]
+fn in_shorter_memory(rt: HostRuntime) {
+    for (length, written) in [
+        (0, 0),
+        (1, 1),
+        (3, 1),
+        (4, 4),
+        (6, 4),
+        (7, 7),
+        (9, 7),
+        (10, 10),
+    ] {
+        let mut short = [5; 12];
+        assert_eq!(rt;
+            sample(&mut short[0..12usize.min(length)]),
+            Err(Refusal::NoRoom)
+        );
+        assert_eq!(rt; short, first_words(written));
+    }
+}
+
+fn kept(rule: Begun, memory: &mut [u32]) -> Result<Begun, Refusal> {
+    match rule.keep(memory, NOTHING) {
+        Ok((rule, _)) => Ok(rule),
+        Err((rule, refusal, _)) => {
+            let _ = rule.give_up();
+            Err(refusal)
+        }
+    }
+}
+
+fn more_taken(rule: Taking, memory: &mut [u32]) -> Result<Taking, Refusal> {
+    match rule.take(memory, NOTHING) {
+        Ok((rule, _)) => Ok(rule),
+        Err((rule, refusal, _)) => {
+            let (table, _) = rule.close();
+            let _ = table.give_up();
+            Err(refusal)
+        }
+    }
+}
+
+fn more_guards(rule: Guarding, memory: &mut [u32]) -> Result<Guarding, Refusal> {
+    match rule.guard(memory, ALWAYS) {
+        Ok((rule, _)) => Ok(rule),
+        Err((rule, refusal, _)) => {
+            let (table, _) = rule.close();
+            let _ = table.give_up();
+            Err(refusal)
+        }
+    }
+}
+
+// Two kept heads and one more taken, or three and one more.
+fn kept_heads(memory: &mut [u32], third: bool) -> Result<usize, Refusal> {
+    let rule = begun(memory, 1)?;
+    let rule = kept(rule, memory)?;
+    let rule = kept(rule, memory)?;
+    let rule = if third { kept(rule, memory)? } else { rule };
+    let rule = taken(rule, memory, NOTHING)?;
+    let (table, words) = rule.close();
+    let _ = table.give_up();
+    Ok(words)
+}
+
+// Three taken heads, or four.
+fn taken_heads(memory: &mut [u32], fourth: bool) -> Result<usize, Refusal> {
+    let rule = begun(memory, 1)?;
+    let rule = taken(rule, memory, NOTHING)?;
+    let rule = more_taken(rule, memory)?;
+    let rule = more_taken(rule, memory)?;
+    let rule = if fourth {
+        more_taken(rule, memory)?
+    } else {
+        rule
+    };
+    let (table, words) = rule.close();
+    let _ = table.give_up();
+    Ok(words)
+}
+
+// Four guards, or five.
+fn guards(memory: &mut [u32], fifth: bool) -> Result<usize, Refusal> {
+    let rule = begun(memory, 1)?;
+    let rule = taken(rule, memory, NOTHING)?;
+    let rule = guarded(rule, memory, ALWAYS)?;
+    let rule = more_guards(rule, memory)?;
+    let rule = more_guards(rule, memory)?;
+    let rule = more_guards(rule, memory)?;
+    let rule = if fifth {
+        more_guards(rule, memory)?
+    } else {
+        rule
+    };
+    let (table, words) = rule.close();
+    let _ = table.give_up();
+    Ok(words)
+}
+
+#[test]
+fn heads_and_guards_at_their_most(rt: HostRuntime) {
+    let mut memory = [0; 20];
+    assert_eq!(rt; kept_heads(&mut memory, false), Ok(4));
+    assert_eq!(rt; kept_heads(&mut memory, true), Err(Refusal::OutOfRange));
+    assert_eq!(rt; taken_heads(&mut memory, false), Ok(4));
+    assert_eq!(rt; taken_heads(&mut memory, true), Err(Refusal::OutOfRange));
+    assert_eq!(rt; guards(&mut memory, false), Ok(14));
+    assert_eq!(rt; guards(&mut memory, true), Err(Refusal::OutOfRange));
 }
 
 fn one_head(operand: Operand) -> Result<usize, Refusal> {
