@@ -2,15 +2,11 @@ use crate::count::WholeCount;
 use crate::fact::Fact;
 use crate::kind::Kind;
 use crate::reading::Reading;
-use crate::reads::{cut_count, read_fact, same_meaning, write_fact};
 use std::test::Fail;
 
 // What a value of that meaning reads as, if one can be made.
 fn remade<V: Kind>(n: i32) -> Option<i32> {
-    match V::make(n) {
-        Some(value) => Some(value.read()),
-        None => None,
-    }
+    V::make(n).map(|value| value.read())
 }
 
 #[test]
@@ -62,7 +58,7 @@ fn reading_fact(name: u8, count: u8, words: (u32, u32, u32)) -> Fact<Reading> {
 }
 
 fn same(a: &Fact<Reading>, b: &Fact<Reading>) -> bool {
-    same_meaning(&read_fact(a), &read_fact(b))
+    a.read() == b.read()
 }
 
 #[test]
@@ -95,31 +91,35 @@ fn only_meanings_are_compared(rt: HostRuntime) {
 
 #[test]
 fn a_read_fact_has_every_field(rt: HostRuntime) {
-    let read = read_fact(&reading_fact(200, 1, (0x0007_0001, 0x0008_0002, 0x0009_0003)));
+    let read = reading_fact(200, 1, (0x0007_0001, 0x0008_0002, 0x0009_0003)).read();
     assert_eq!(rt; read.name, 200);
     assert_eq!(rt; read.count, 1);
     assert_eq!(rt; read.args, (1, 2, 3));
 }
 
+fn made<V: Kind>(name: u8, count: u8, args: (i32, i32, i32)) -> Option<Fact<V>> {
+    Fact::make(Fact { name, count, args })
+}
+
 #[test]
 fn facts_are_written_or_refused(rt: HostRuntime) -> Result<(), Fail> {
-    let wide: Option<Fact<WholeCount>> = write_fact(7, 1, (-134_217_728, 5, i32::MAX));
+    let wide: Option<Fact<WholeCount>> = made(7, 1, (-134_217_728, 5, i32::MAX));
     let Some(wide) = wide else {
         return Err(Fail::new("the first argument lies within the ends"));
     };
-    let wide = read_fact(&wide);
+    let wide = wide.read();
     assert_eq!(rt; (wide.name, wide.count), (7, 1));
     assert_eq!(rt; wide.args, (-134_217_728, -134_217_728, -134_217_728));
-    let full: Option<Fact<Reading>> = write_fact(7, 3, (0, 84, 65_535));
+    let full: Option<Fact<Reading>> = made(7, 3, (0, 84, 65_535));
     assert_eq!(rt;
-        read_fact(&full.ok_or("all lie within the ends")?).args,
+        full.ok_or("all lie within the ends")?.read().args,
         (0, 84, 65_535)
     );
     for args in [(-1, 0, 0), (0, 65_536, 0), (0, 0, 65_536)] {
-        let outside: Option<Fact<Reading>> = write_fact(7, 3, args);
+        let outside: Option<Fact<Reading>> = made(7, 3, args);
         assert!(rt; outside.is_none());
     }
-    let long: Option<Fact<Reading>> = write_fact(7, 4, (0, 0, 0));
+    let long: Option<Fact<Reading>> = made(7, 4, (0, 0, 0));
     assert!(rt; long.is_none());
     Ok(())
 }
@@ -128,7 +128,7 @@ fn facts_are_written_or_refused(rt: HostRuntime) -> Result<(), Fail> {
 fn counts_are_cut_to_three(rt: HostRuntime) {
     for count in [0, 3, 4, 255] {
         assert_eq!(rt;
-            cut_count(&reading_fact(1, count, (1, 2, 3))).count,
+            reading_fact(1, count, (1, 2, 3)).cut().count,
             if count > 3 { 3 } else { count }
         );
     }

@@ -1,5 +1,5 @@
 -- A 32-bit word: its kind in the top four bits, and its payload below.
-use Rattle.std.specs.Prelude.{ℕ, suc, ◌+◌, ◌-◌, ◌*◌, ◌/◌, ◌%◌, ◌^◌, ◌<◌, Bool, cond, List, [], ◌∷◌, ℤ, pos, negsuc, ◌-ℤ◌, ◌==◌, bit_and, nat_lt, slice_index}
+use Rattle.std.specs.Prelude.{ℕ, suc, ◌+◌, ◌-◌, ◌*◌, ◌/◌, ◌%◌, ◌^◌, ◌<◌, Bool, cond, List, [], ◌∷◌, ℤ, pos, negsuc, ◌-ℤ◌, ◌==◌, bit_and, nat_lt, slice_index, codes}
 use Rattle.words.specs.declared.kind.Kind.{Kind}
 use Rattle.words.specs.declared.kind.Kind.TheVariants.{Blank, Rule, Kept, Taken, Guard, Body, Var, Const, Sum, Diff, Feed, Take, Look, Commit, Size, End}
 
@@ -21,6 +21,25 @@ tag Look = 12
 tag Commit = 13
 tag Size = 14
 tag End = 15
+
+-- the name of each kind
+abbrev pub kind_text : Kind → List ℕ
+kind_text Blank = codes "of kind 0"
+kind_text Rule = codes "RULE"
+kind_text Kept = codes "KEPT"
+kind_text Taken = codes "TAKEN"
+kind_text Guard = codes "GUARD"
+kind_text Body = codes "BODY"
+kind_text Var = codes "VAR"
+kind_text Const = codes "CONST"
+kind_text Sum = codes "SUM"
+kind_text Diff = codes "DIFF"
+kind_text Feed = codes "FEED"
+kind_text Take = codes "TAKE"
+kind_text Look = codes "LOOK"
+kind_text Commit = codes "COMMIT"
+kind_text Size = codes "SIZE"
+kind_text End = codes "END"
 
 abbrev pub kind_of : ℕ → ℕ
 kind_of w = w / 2 ^ 28

@@ -3,5 +3,5 @@
 pub mod kind;
 pub mod word;
 
-pub use kind::Kind;
+pub use kind::{KINDS, Kind};
 pub use word::{Word, constant_word, fact_word};

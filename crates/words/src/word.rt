@@ -1,31 +1,12 @@
 ghost use Rattle.std.specs.Prelude.{◌≡◌, ℕ, ◌+◌, ◌-◌, ◌*◌, ◌/◌, ◌%◌, ◌^◌, ◌<◌, ◌≤◌, ℤ, pos, negsuc, MatchOption, ◌==◌};
 ghost use Rattle.words.specs.Words.{tag, kind_of, payload_of, word, allowed, name_in, count_in, label_in, signed, unsigned, FullRange};
 
-use crate::kind::Kind;
+use crate::kind::{KINDS, Kind};
 
 // The payload bits that each kind of word may use, by the kind's number.
 const MASKS: [u32; 16] = [
     0, 0xFFFF, 0xFF_000F, 0xFF_000F, 0xF, 0xFF_000F, 0xF, 0xFFF_FFFF, 0, 0, 0xFF_000F, 0xF, 0xF,
     0xF, 0xFF_FFFF, 0,
-];
-
-const KINDS: [Kind; 16] = [
-    Kind::Blank,
-    Kind::Rule,
-    Kind::Kept,
-    Kind::Taken,
-    Kind::Guard,
-    Kind::Body,
-    Kind::Var,
-    Kind::Const,
-    Kind::Sum,
-    Kind::Diff,
-    Kind::Feed,
-    Kind::Take,
-    Kind::Look,
-    Kind::Commit,
-    Kind::Size,
-    Kind::End,
 ];
 
 const LEAST: i32 = -134_217_728;
@@ -39,21 +20,31 @@ pub struct Word {
     pub payload: u32,
 }
 
-impl Word {
-    pub fn read(bits: u32) -> Word
-        ensures kind { tag result.kind ≡ kind_of bits }
-        ensures payload { result.payload ≡ payload_of bits }
-    {
+impl From<u32> for Word {
+    ghost from_gives = { λ bits word. (tag word.kind ≡ kind_of bits) × (word.payload ≡ payload_of bits) };
+
+    fn from(bits: u32) -> Word {
         Word {
             kind: KINDS[(bits >> 28) as usize],
             payload: bits & 0xFFF_FFFF,
         }
     }
+}
 
+// A payload past 28 bits loses what is above them.
+impl From<Word> for u32 {
+    ghost from_gives = { λ w bits. bits ≡ word (tag w.kind) (payload_of w.payload) };
+
+    fn from(word: Word) -> u32 {
+        (word.kind as u32) << 28 | word.payload & 0xFFF_FFFF
+    }
+}
+
+impl Word {
     pub fn is(self, kind: Kind) -> bool
         ensures { result ≡ (tag self.kind == tag kind) }
     {
-        self.kind as u8 == kind as u8
+        self.kind == kind
     }
 
     // Whether the payload sets no bit that the kind may not use.
@@ -86,12 +77,7 @@ impl Word {
     pub fn constant(self) -> i32
         ensures { result ≡ signed (payload_of self.payload) }
     {
-        let low = self.payload % 0x1000_0000;
-        if low < 0x800_0000 {
-            low as i32
-        } else {
-            low as i32 - 0x1000_0000
-        }
+        (self.payload << 4).cast_signed() >> 4
     }
 }
 
@@ -102,7 +88,8 @@ pub fn fact_word(kind: Kind, name: u8, count: u8) -> Option<u32>
     if count >= 16 {
         return None;
     }
-    Some(kind as u32 * 0x1000_0000 + name as u32 * 0x1_0000 + count as u32)
+    let payload = u32::from(name) << 16 | u32::from(count);
+    Some(u32::from(Word { kind, payload }))
 }
 
 // The CONST word of a number; none if it lies outside the full range.
@@ -112,10 +99,7 @@ pub fn constant_word(n: i32) -> Option<u32>
     if n < LEAST || n > MOST {
         return None;
     }
-    let low = if n < 0 {
-        (n + 0x1000_0000) as u32
-    } else {
-        n as u32
-    };
-    Some(0x7000_0000 + low)
+    let kind = Kind::Const;
+    let payload = n.cast_unsigned();
+    Some(u32::from(Word { kind, payload }))
 }
