@@ -6,9 +6,8 @@ use Rattle.words.specs.Words.{kind_of, payload_of, clean, name_in, count_in, lab
 use Rattle.grammar.specs.declared.reason.Reason.TheVariants.{OutOfTurn, StrayBit, OutOfRange}
 use Rattle.grammar.specs.declared.part.Operand.{Operand}
 use Rattle.grammar.specs.declared.part.Term.TheVariants.{One as Single, Sum, Diff}
-use Rattle.grammar.specs.declared.part.Head.{Head}
+use Rattle.grammar.specs.Atoms.{Head, BodyFact}
 use Rattle.grammar.specs.declared.part.Guard.{Guard}
-use Rattle.grammar.specs.declared.part.BodyFact.{BodyFact}
 use Rattle.grammar.specs.Parts.{Parts}
 use Rattle.grammar.specs.Writing.{Limits}
 use Rattle.grammar.specs.Reading.{Parsed, ok, no, then, read_operand, read_pair, read_term, read_args, read_head, read_guard, read_body, test_at, read_parts, read_rule, read_rules, read_table}

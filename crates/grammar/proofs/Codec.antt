@@ -12,12 +12,12 @@ use Rattle.grammar.specs.declared.part.Term.{Term}
 use Rattle.grammar.specs.declared.part.Term.TheVariants.{One as Single, Sum, Diff}
 use Rattle.grammar.specs.declared.part.Test.{Test}
 use Rattle.grammar.specs.declared.part.Test.TheVariants.{Equal, NotEqual, Less, AtMost}
-use Rattle.grammar.specs.declared.part.Args.{Args}
-use Rattle.grammar.specs.declared.part.Args.TheVariants.{Zero, One, Two, Three}
-use Rattle.grammar.specs.declared.part.Head.{Head}
+use Rattle.args.specs.declared.Args.{Args}
+use Rattle.args.specs.declared.Args.TheVariants.{Zero, One, Two, Three}
+use Rattle.grammar.specs.Atoms.{Head, BodyFact}
 use Rattle.grammar.specs.declared.part.Guard.{Guard}
-use Rattle.grammar.specs.declared.part.BodyFact.{BodyFact}
-use Rattle.grammar.specs.Parts.{listed, amount, Parts}
+use Rattle.args.specs.Listed.{listed, amount}
+use Rattle.grammar.specs.Parts.{Parts}
 use Rattle.grammar.specs.Writing.{operand_words, term_words, head_words, test_number, guard_words, body_words, heads_words, tail_words, written}
 use Rattle.grammar.specs.Writing.{Limits, FormedOperand, FormedTerm, FormedHead, FormedGuard, FormedBody, FormedRule, Formed}
 use Rattle.grammar.specs.Reading.{Parsed, ok, no, then, read_operand, read_pair, read_term, read_args, read_head, test_at, read_guard, read_body, read_parts, read_rule, read_rules, read_table}

@@ -6,12 +6,12 @@ use Rattle.grammar.specs.declared.part.Operand.{Operand}
 use Rattle.grammar.specs.declared.part.Operand.TheVariants.{Var, Const}
 use Rattle.grammar.specs.declared.part.Term.{Term}
 use Rattle.grammar.specs.declared.part.Term.TheVariants.{One as Single, Sum, Diff}
-use Rattle.grammar.specs.declared.part.Args.{Args}
-use Rattle.grammar.specs.declared.part.Args.TheVariants.{Zero, One, Two, Three}
-use Rattle.grammar.specs.declared.part.Head.{Head}
+use Rattle.args.specs.declared.Args.{Args}
+use Rattle.args.specs.declared.Args.TheVariants.{Zero, One, Two, Three}
+use Rattle.grammar.specs.Atoms.{Head, BodyFact}
 use Rattle.grammar.specs.declared.part.Guard.{Guard}
-use Rattle.grammar.specs.declared.part.BodyFact.{BodyFact}
-use Rattle.grammar.specs.Parts.{listed, amount, Parts}
+use Rattle.args.specs.Listed.{listed, amount}
+use Rattle.grammar.specs.Parts.{Parts}
 use Rattle.grammar.specs.Writing.{operand_words, term_words, head_words, guard_words, body_words, heads_words, tail_words, rule_words}
 use Rattle.grammar.specs.Sizes.{term_size, head_size, guard_size, body_size, heads_size, rule_size}
 

@@ -1,3 +1,4 @@
+pub mod Atoms
 pub mod Parts
 pub mod Writing
 pub mod Reading

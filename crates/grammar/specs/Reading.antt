@@ -9,11 +9,10 @@ use Rattle.grammar.specs.declared.part.Term.{Term}
 use Rattle.grammar.specs.declared.part.Term.TheVariants.{One as Single, Sum, Diff}
 use Rattle.grammar.specs.declared.part.Test.{Test}
 use Rattle.grammar.specs.declared.part.Test.TheVariants.{Equal, NotEqual, Less, AtMost}
-use Rattle.grammar.specs.declared.part.Args.{Args}
-use Rattle.grammar.specs.declared.part.Args.TheVariants.{Zero, One, Two, Three}
-use Rattle.grammar.specs.declared.part.Head.{Head}
+use Rattle.args.specs.declared.Args.{Args}
+use Rattle.args.specs.declared.Args.TheVariants.{Zero, One, Two, Three}
+use Rattle.grammar.specs.Atoms.{Head, BodyFact}
 use Rattle.grammar.specs.declared.part.Guard.{Guard}
-use Rattle.grammar.specs.declared.part.BodyFact.{BodyFact}
 use Rattle.grammar.specs.Parts.{Parts}
 use Rattle.grammar.specs.Writing.{Limits}
 

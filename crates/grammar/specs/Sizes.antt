@@ -2,10 +2,10 @@
 use Rattle.std.specs.Prelude.{ℕ, ◌+◌, sum_by}
 use Rattle.grammar.specs.declared.part.Term.{Term}
 use Rattle.grammar.specs.declared.part.Term.TheVariants.{One, Sum, Diff}
-use Rattle.grammar.specs.declared.part.Head.{Head}
+use Rattle.grammar.specs.Atoms.{Head, BodyFact}
 use Rattle.grammar.specs.declared.part.Guard.{Guard}
-use Rattle.grammar.specs.declared.part.BodyFact.{BodyFact}
-use Rattle.grammar.specs.Parts.{listed, amount, Parts}
+use Rattle.args.specs.Listed.{listed, amount}
+use Rattle.grammar.specs.Parts.{Parts}
 
 abbrev pub term_size : Term → ℕ
 term_size (One a) = 1

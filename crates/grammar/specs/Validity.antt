@@ -3,8 +3,9 @@ use Rattle.std.specs.Prelude.{◌≡◌, ℕ, ◌<◌, Bool, true, false, cond, 
 use Rattle.words.specs.Words.{kind_of, payload_of}
 use Rattle.grammar.specs.declared.part.Operand.{Operand}
 use Rattle.grammar.specs.declared.part.Operand.TheVariants.{Var, Const}
-use Rattle.grammar.specs.declared.part.Head.{Head}
-use Rattle.grammar.specs.Parts.{listed, Parts}
+use Rattle.grammar.specs.Atoms.{Head}
+use Rattle.args.specs.Listed.{listed}
+use Rattle.grammar.specs.Parts.{Parts}
 use Rattle.facts.specs.Lists.{Nth}
 use Rattle.std.specs.List.{flat_map, AllByRecursion}
 use Rattle.grammar.specs.Writing.{standard, Formed, tail_words, rule_words}

@@ -1,8 +1,22 @@
+ghost use Rattle.std.specs.Prelude.{◌≡◌, pos};
+ghost use Rattle.grammar.specs.declared.part.Operand.TheVariants.{Const};
+ghost use Rattle.grammar.specs.declared.part.Term.TheVariants.{One};
+
+use args::Args;
+
 // A variable (0 to 7) or a constant.
 #[derive(Clone, Copy, PartialEq, Debug)]
 pub enum Operand {
     Var(u8),
     Const(i32),
+}
+
+impl Default for Operand {
+    ghost is_default = { λ operand. operand ≡ Const (pos 0) };
+
+    fn default() -> Operand {
+        Operand::Const(0)
+    }
 }
 
 // An operand, or the sum or difference of two.
@@ -13,39 +27,40 @@ pub enum Term {
     Diff(Operand, Operand),
 }
 
+impl Default for Term {
+    ghost is_default = { λ term. term ≡ One (Const (pos 0)) };
+
+    fn default() -> Term {
+        Term::One(Operand::default())
+    }
+}
+
 // How a guard compares its two terms.
-#[derive(Clone, Copy, PartialEq, Debug)]
+#[derive(Clone, Copy, PartialEq, Default, Debug)]
 pub enum Test {
+    #[default]
     Equal,
     NotEqual,
     Less,
     AtMost,
 }
 
-// None to three arguments.
-#[derive(Clone, Copy, PartialEq, Debug)]
-pub enum Args<T> {
-    Zero,
-    One(T),
-    Two(T, T),
-    Three(T, T, T),
-}
-
-#[derive(Clone, Copy, PartialEq, Debug)]
-pub struct Head {
+// A name and arguments.
+#[derive(Clone, Copy, PartialEq, Default, Debug)]
+pub struct Atom<A> {
     pub name: u8,
-    pub args: Args<Operand>,
+    pub args: Args<A>,
 }
 
-#[derive(Clone, Copy, PartialEq, Debug)]
+// What a fact must be like.
+pub type Head = Atom<Operand>;
+
+// A fact to be written.
+pub type BodyFact = Atom<Term>;
+
+#[derive(Clone, Copy, PartialEq, Default, Debug)]
 pub struct Guard {
     pub test: Test,
     pub left: Term,
     pub right: Term,
-}
-
-#[derive(Clone, Copy, PartialEq, Debug)]
-pub struct BodyFact {
-    pub name: u8,
-    pub args: Args<Term>,
 }

@@ -1,11 +1,12 @@
 use crate::part::{BodyFact, Guard, Head};
+use arrayvec::ArrayVec;
 
 // A rule: kept heads come before taken ones.
-#[derive(Drop)]
+#[derive(Default, Drop)]
 pub struct Rule {
     pub label: u16,
-    pub kept: Vec<Head>,
-    pub taken: Vec<Head>,
-    pub guards: Vec<Guard>,
-    pub body: Vec<BodyFact>,
+    pub kept: ArrayVec<Head, 3>,
+    pub taken: ArrayVec<Head, 3>,
+    pub guards: ArrayVec<Guard, 4>,
+    pub body: ArrayVec<BodyFact, 3>,
 }

@@ -7,12 +7,12 @@ use Rattle.std.proofs.lemmas.List.Sums.{sum_by-append}
 use Rattle.std.proofs.lemmas.Bool.{and_parts, false≢true}
 use Rattle.facts.specs.Lists.{Nth}
 use Rattle.facts.specs.Meanings.{Meaning}
-use Rattle.grammar.specs.declared.part.Args.{Args}
-use Rattle.grammar.specs.declared.part.Args.TheVariants.{Zero, One, Two, Three}
-use Rattle.grammar.specs.declared.part.Head.{Head}
+use Rattle.args.specs.declared.Args.{Args}
+use Rattle.args.specs.declared.Args.TheVariants.{Zero, One, Two, Three}
+use Rattle.grammar.specs.Atoms.{Head, BodyFact}
 use Rattle.grammar.specs.declared.part.Term.{Term}
-use Rattle.grammar.specs.declared.part.BodyFact.{BodyFact}
-use Rattle.grammar.specs.Parts.{Parts, listed, amount}
+use Rattle.args.specs.Listed.{listed, amount}
+use Rattle.grammar.specs.Parts.{Parts}
 use Rattle.matching.specs.declared.verdict.Verdict.TheVariants.{Applies}
 use Rattle.matching.specs.Every.{every}
 use Rattle.matching.specs.Terms.{term_value}

@@ -5,10 +5,10 @@ use Rattle.std.proofs.lemmas.Bool.{and_parts, eqb-true, false≢true, cases_Bool
 use Rattle.facts.specs.declared.fact.ReadFact.{ReadFact}
 use Rattle.facts.specs.Meanings.{Meaning, read_meaning}
 use Rattle.grammar.specs.declared.part.Operand.{Operand}
-use Rattle.grammar.specs.declared.part.Args.{Args}
-use Rattle.grammar.specs.declared.part.Args.TheVariants.{Zero, One, Two, Three}
-use Rattle.grammar.specs.declared.part.Head.{Head}
-use Rattle.grammar.specs.Parts.{listed, amount}
+use Rattle.args.specs.declared.Args.{Args}
+use Rattle.args.specs.declared.Args.TheVariants.{Zero, One, Two, Three}
+use Rattle.grammar.specs.Atoms.{Head}
+use Rattle.args.specs.Listed.{listed, amount}
 use Rattle.matching.proofs.Everies.{every_append}
 use Rattle.matching.specs.Terms.{equal, operand_value}
 use Rattle.matching.specs.Heads.{fits_head, all_fit, Met, met, met_args, bind_one, bind_all, agree}

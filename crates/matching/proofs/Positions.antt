@@ -4,8 +4,8 @@ use Rattle.std.proofs.lemmas.List.{append_assoc, length-append}
 use Rattle.std.proofs.lemmas.Bool.{and_parts}
 use Rattle.facts.specs.declared.fact.ReadFact.{ReadFact}
 use Rattle.facts.specs.Meanings.{Meaning, read_meaning}
-use Rattle.grammar.specs.declared.part.Head.{Head}
-use Rattle.grammar.specs.Parts.{listed}
+use Rattle.grammar.specs.Atoms.{Head}
+use Rattle.args.specs.Listed.{listed}
 use Rattle.matching.specs.Terms.{equal, operand_value}
 use Rattle.matching.specs.Heads.{fits_head, all_fit, fits_at, Met, met, met_args, bind_all, agree}
 use Rattle.matching.proofs.Everies.{and_assoc, every_append}

@@ -1,10 +1,10 @@
 -- When a rule applies to facts, chosen one for each position, and the facts of its body.
 use Rattle.std.specs.Prelude.{ℕ, Bool, true, false, cond, ◌&&◌, List, ◌++◌, map, ℤ, int_le, int_lt}
 use Rattle.facts.specs.Meanings.{Meaning}
-use Rattle.grammar.specs.declared.part.Head.{Head}
+use Rattle.grammar.specs.Atoms.{Head, BodyFact}
 use Rattle.grammar.specs.declared.part.Term.{Term}
-use Rattle.grammar.specs.declared.part.BodyFact.{BodyFact}
-use Rattle.grammar.specs.Parts.{Parts, listed, amount}
+use Rattle.args.specs.Listed.{listed, amount}
+use Rattle.grammar.specs.Parts.{Parts}
 use Rattle.matching.specs.declared.verdict.Verdict.{Verdict}
 use Rattle.matching.specs.declared.verdict.Verdict.TheVariants.{NoMatch, OutsideEnds, Applies}
 use Rattle.matching.specs.Every.{every}

@@ -5,11 +5,11 @@ use Rattle.facts.specs.Meanings.{Meaning}
 use Rattle.grammar.specs.declared.part.Operand.TheVariants.{Var}
 use Rattle.grammar.specs.declared.part.Test.{Test}
 use Rattle.grammar.specs.declared.part.Test.TheVariants.{Equal, NotEqual, Less, AtMost}
-use Rattle.grammar.specs.declared.part.Head.{Head}
+use Rattle.grammar.specs.Atoms.{Head, BodyFact}
 use Rattle.grammar.specs.declared.part.Term.{Term}
 use Rattle.grammar.specs.declared.part.Guard.{Guard}
-use Rattle.grammar.specs.declared.part.BodyFact.{BodyFact}
-use Rattle.grammar.specs.Parts.{Parts, listed, amount}
+use Rattle.args.specs.Listed.{listed, amount}
+use Rattle.grammar.specs.Parts.{Parts}
 use Rattle.matching.specs.declared.verdict.Verdict.{Verdict}
 use Rattle.matching.specs.declared.verdict.Verdict.TheVariants.{NoMatch, OutsideEnds, Applies}
 use Rattle.matching.specs.Terms.{operand_value, term_value}

@@ -3,8 +3,8 @@ use Rattle.std.specs.Prelude.{ℕ, zero, suc, Bool, true, false, cond, ◌&&◌,
 use Rattle.facts.specs.Meanings.{Meaning}
 use Rattle.grammar.specs.declared.part.Operand.{Operand}
 use Rattle.grammar.specs.declared.part.Operand.TheVariants.{Var, Const}
-use Rattle.grammar.specs.declared.part.Head.{Head}
-use Rattle.grammar.specs.Parts.{listed, amount}
+use Rattle.grammar.specs.Atoms.{Head}
+use Rattle.args.specs.Listed.{listed, amount}
 use Rattle.matching.specs.Every.{every}
 use Rattle.matching.specs.Terms.{equal, operand_value}
 

@@ -1,6 +1,6 @@
 ghost use Rattle.std.specs.Prelude.{◌≡◌, [], ◌∷◌, map, take, ◌≤ℤ◌};
 ghost use Rattle.facts.specs.Meanings.{read_meaning};
-ghost use Rattle.grammar.specs.Parts.{listed, amount};
+ghost use Rattle.args.specs.Listed.{listed, amount};
 ghost use Rattle.matching.specs.Every.{every};
 ghost use Rattle.matching.specs.Terms.{term_value, holds};
 ghost use Rattle.matching.specs.Applying.{within, fact_within, clamped, written};

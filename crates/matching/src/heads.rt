@@ -1,6 +1,6 @@
 ghost use Rattle.std.specs.Prelude.{◌≡◌, true, [], ◌∷◌, map};
 ghost use Rattle.facts.specs.Meanings.{read_meaning};
-ghost use Rattle.grammar.specs.Parts.{listed, amount};
+ghost use Rattle.args.specs.Listed.{listed, amount};
 ghost use Rattle.matching.specs.Heads.{fits_head, all_fit, met, met_args, bind_one, bind_all, agree};
 
 use crate::terms::operand_value;

@@ -6,10 +6,9 @@ use Rattle.grammar.specs.declared.reason.Reason.{Reason}
 use Rattle.grammar.specs.declared.part.Operand.{Operand}
 use Rattle.grammar.specs.declared.part.Term.{Term}
 use Rattle.grammar.specs.declared.part.Test.{Test}
-use Rattle.grammar.specs.declared.part.Args.{Args}
-use Rattle.grammar.specs.declared.part.Head.{Head}
+use Rattle.args.specs.declared.Args.{Args}
+use Rattle.grammar.specs.Atoms.{Head, BodyFact}
 use Rattle.grammar.specs.declared.part.Guard.{Guard}
-use Rattle.grammar.specs.declared.part.BodyFact.{BodyFact}
 use Rattle.grammar.specs.Reading.{Parsed, ok, no, then, read_operand, read_term, read_args, test_at, read_head, read_guard, read_body, read_parts, read_rule, read_rules}
 use Rattle.grammar.specs.Parts.{Parts}
 use Rattle.grammar.specs.Writing.{standard}

@@ -5,8 +5,8 @@ use Rattle.facts.specs.Places.{empty, held}
 use Rattle.grammar.specs.declared.part.Operand.TheVariants.{Var}
 use Rattle.grammar.specs.declared.part.Term.TheVariants.{One}
 use Rattle.grammar.specs.declared.part.Test.TheVariants.{AtMost}
-use Rattle.grammar.specs.declared.part.Args.TheVariants.{Two}
-use Rattle.grammar.specs.declared.part.Head.{Head}
+use Rattle.args.specs.declared.Args.TheVariants.{Two}
+use Rattle.grammar.specs.Atoms.{Head}
 use Rattle.grammar.specs.Parts.{Parts}
 use Rattle.grammar.specs.Writing.{written}
 use Rattle.laws.specs.Rules.{Rules}

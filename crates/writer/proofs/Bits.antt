@@ -7,8 +7,8 @@ use Rattle.std.proofs.lemmas.Bool.Decides.{nat_tests}
 use Rattle.std.proofs.lemmas.Bool.{cases_order, eq-eqb, ne_eqb}
 use Rattle.grammar.specs.declared.part.Operand.{Operand}
 use Rattle.grammar.specs.declared.part.Operand.TheVariants.{Var, Const}
-use Rattle.grammar.specs.declared.part.Head.{Head}
-use Rattle.grammar.specs.Parts.{listed}
+use Rattle.grammar.specs.Atoms.{Head}
+use Rattle.args.specs.Listed.{listed}
 use Rattle.grammar.specs.Validity.{some, is_var, head_has}
 use Rattle.writer.specs.Variables.{has, bind_operand, bind_all, bind_head}
 

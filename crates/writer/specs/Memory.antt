@@ -1,7 +1,7 @@
 -- Words put into the caller's memory.
 use Rattle.std.specs.Prelude.{ℕ, ◌+◌, List, ◌∷◌, ◌++◌, length, take, drop}
 use Rattle.std.specs.List.{flat_map}
-use Rattle.grammar.specs.Parts.{listed}
+use Rattle.args.specs.Listed.{listed}
 use Rattle.writer.specs.declared.code.Code.{Code}
 
 -- these words stand from a place on, and all others are as before

@@ -1,9 +1,8 @@
 -- What the words so far are the writing of.
 use Rattle.std.specs.Prelude.{◌≡◌, ℕ, ◌+◌, ◌^◌, ◌<◌, ◌≤◌, List, [], ◌∷◌, ◌++◌, length, take, drop}
 use Rattle.std.specs.List.{flat_map, AllByRecursion}
-use Rattle.grammar.specs.declared.part.Head.{Head}
+use Rattle.grammar.specs.Atoms.{Head, BodyFact}
 use Rattle.grammar.specs.declared.part.Guard.{Guard}
-use Rattle.grammar.specs.declared.part.BodyFact.{BodyFact}
 use Rattle.grammar.specs.declared.rule.Rule.{Rule}
 use Rattle.grammar.specs.Parts.{Parts, parts}
 use Rattle.grammar.specs.Writing.{standard, rule_words, written, FormedHead, FormedGuard, FormedBody, FormedRule}

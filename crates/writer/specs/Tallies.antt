@@ -1,8 +1,7 @@
 -- The numbers of an open rule: what a part more needs, and what they are after it.
 use Rattle.std.specs.Prelude.{ℕ, ◌+◌, ◌<◌}
-use Rattle.grammar.specs.declared.part.Head.{Head}
+use Rattle.grammar.specs.Atoms.{Head, BodyFact}
 use Rattle.grammar.specs.declared.part.Guard.{Guard}
-use Rattle.grammar.specs.declared.part.BodyFact.{BodyFact}
 use Rattle.grammar.specs.Writing.{FormedHead, FormedGuard, FormedBody}
 use Rattle.grammar.specs.Sizes.{head_size, guard_size, body_size}
 use Rattle.writer.specs.declared.tally.Tally.{Tally}

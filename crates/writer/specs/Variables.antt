@@ -4,8 +4,8 @@ use Rattle.std.specs.List.{AllByRecursion}
 use Rattle.words.specs.Words.{kind_of, payload_of}
 use Rattle.grammar.specs.declared.part.Operand.{Operand}
 use Rattle.grammar.specs.declared.part.Operand.TheVariants.{Var, Const}
-use Rattle.grammar.specs.declared.part.Head.{Head}
-use Rattle.grammar.specs.Parts.{listed}
+use Rattle.grammar.specs.Atoms.{Head}
+use Rattle.args.specs.Listed.{listed}
 
 -- the variable v is among them
 abbrev pub has : ℕ → ℕ → Bool

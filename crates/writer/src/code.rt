@@ -1,7 +1,7 @@
 ghost use Rattle.std.specs.Prelude.{◌≡◌, ℕ, ◌+◌, ◌-◌, ◌*◌, ◌/◌, ◌%◌, ◌^◌, ◌<◌, ◌≤◌, List, [], ◌∷◌, MatchOption};
 ghost use Rattle.std.specs.List.{flat_map, AllByRecursion};
 ghost use Rattle.words.specs.Words.{word, tag};
-ghost use Rattle.grammar.specs.Parts.{listed, amount};
+ghost use Rattle.args.specs.Listed.{listed, amount};
 ghost use Rattle.grammar.specs.Writing.{operand_words, term_words, head_words, guard_words, body_words, test_number, FormedOperand, FormedTerm, FormedHead, FormedGuard, FormedBody};
 ghost use Rattle.writer.specs.Memory.{code_words};
 

@@ -1,6 +1,6 @@
 ghost use Rattle.std.specs.Prelude.{◌≡◌, ℕ, ◌+◌, ◌-◌, ◌*◌, ◌/◌, ◌%◌, ◌^◌, ◌<◌, ◌≤◌, List, [], ◌∷◌, length, Decides};
 ghost use Rattle.std.specs.List.{flat_map, AllByRecursion};
-ghost use Rattle.grammar.specs.Parts.{listed, amount};
+ghost use Rattle.args.specs.Listed.{listed, amount};
 ghost use Rattle.grammar.specs.Writing.{FormedOperand, FormedHead};
 ghost use Rattle.writer.specs.Memory.{code_words, placed};
 ghost use Rattle.writer.specs.Variables.{has, free_of, Within, bind_operand, bind_head};

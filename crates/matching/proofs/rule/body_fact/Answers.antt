@@ -2,7 +2,7 @@ use Rattle.std.proofs.Common.{◌≡◌, ◌<◌, ◌≤◌, Bool, cond, List, m
 use Rattle.std.proofs.lemmas.List.{length-map}
 use Rattle.facts.specs.Lists.{Nth}
 use Rattle.facts.specs.Meanings.{Meaning, read_meaning}
-use Rattle.grammar.specs.declared.part.BodyFact.{BodyFact}
+use Rattle.grammar.specs.Atoms.{BodyFact}
 use Rattle.grammar.specs.Parts.{parts}
 use Rattle.matching.specs.Heads.{met, bind_all, unbound}
 use Rattle.matching.specs.Applying.{heads, values, written, body}

@@ -1,6 +1,6 @@
 use Rattle.std.proofs.Common.{◌≡◌, ◌+◌, ◌-◌, ◌<◌, ◌≤◌, length, vec_items, sym, ap, ◌∙◌, arith}
 use Rattle.std.proofs.lemmas.Bool.{le-ltb}
-use Rattle.grammar.specs.declared.part.Head.{Head}
+use Rattle.grammar.specs.Atoms.{Head}
 use Rattle.facts.specs.Meanings.{read_meaning}
 use Rattle.grammar.specs.Parts.{parts}
 use Rattle.matching.specs.Heads.{fits_head}

@@ -1,7 +1,7 @@
 use Rattle.std.proofs.Common.{◌≡◌, ℕ, ◌+◌, ◌≤◌, List, [], ◌∷◌, length, set, sym, ◌∙◌, subst, arith, length-set}
-use Rattle.grammar.specs.declared.part.Args.{Args}
-use Rattle.grammar.specs.declared.part.Args.TheVariants.{Zero, One, Two, Three}
-use Rattle.grammar.specs.Parts.{listed}
+use Rattle.args.specs.declared.Args.{Args}
+use Rattle.args.specs.declared.Args.TheVariants.{Zero, One, Two, Three}
+use Rattle.args.specs.Listed.{listed}
 use Rattle.writer.proofs.Places.{Puts, puts_none, puts_one, puts_more}
 use Rattle.writer.proofs.put.put_few.Goals as goal
 

@@ -1,8 +1,8 @@
 use Rattle.std.proofs.Common.{◌≡◌, ℕ, ◌+◌, ◌≤◌, List, length, sym, subst}
 use Rattle.std.specs.List.{flat_map}
-use Rattle.grammar.specs.declared.part.Args.{Args}
-use Rattle.grammar.specs.declared.part.Args.TheVariants.{Zero, Two, Three}
-use Rattle.grammar.specs.Parts.{listed}
+use Rattle.args.specs.declared.Args.{Args}
+use Rattle.args.specs.declared.Args.TheVariants.{Zero, Two, Three}
+use Rattle.args.specs.Listed.{listed}
 use Rattle.writer.proofs.Places.{Puts, puts_none, puts_two, puts_three}
 use Rattle.writer.proofs.put.put_rest.Goals as goal
 

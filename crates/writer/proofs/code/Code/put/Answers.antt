@@ -1,6 +1,6 @@
 use Rattle.std.proofs.Common.{◌+◌, [], ◌∷◌, set, arith}
 use Rattle.std.specs.List.{flat_map}
-use Rattle.grammar.specs.Parts.{listed}
+use Rattle.args.specs.Listed.{listed}
 use Rattle.writer.proofs.Places.{puts_one, puts_more}
 use Rattle.writer.proofs.code.Code.put.Goals as goal
 
