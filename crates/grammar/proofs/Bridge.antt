@@ -6,6 +6,7 @@ use Rattle.words.specs.Words.{kind_of, payload_of, clean, name_in, count_in, lab
 use Rattle.grammar.specs.declared.reason.Reason.TheVariants.{OutOfTurn, StrayBit, OutOfRange}
 use Rattle.grammar.specs.declared.part.Operand.{Operand}
 use Rattle.grammar.specs.declared.part.Term.TheVariants.{One as Single, Sum, Diff}
+use Rattle.grammar.specs.declared.part.Atom.{Atom}
 use Rattle.grammar.specs.Atoms.{Head, BodyFact}
 use Rattle.grammar.specs.declared.part.Guard.{Guard}
 use Rattle.grammar.specs.Parts.{Parts}
@@ -119,37 +120,30 @@ module _ {A : Type 0} (L : Limits) (k : ℕ) (used : Stage → ℕ) (most : ℕ)
       }
 
 -- what follows the first word of a part
-abbrev head_rest : ℕ → List ℕ → Parsed Head
-head_rest n ws = then (read_args read_operand (count_in n) ws) (λ xs us. ok (record { name = name_in n; args = xs }) us)
+abbrev atom_rest : {A : Type 0} → (List ℕ → Parsed A) → ℕ → List ℕ → Parsed (Atom A)
+atom_rest p n ws = then (read_args p (count_in n) ws) (λ xs us. ok (record { name = name_in n; args = xs }) us)
 
 abbrev guard_rest : ℕ → List ℕ → Parsed Guard
 guard_rest n ws = then (read_term ws) (λ a us. then (read_term us) (λ b vs. ok (record { test = test_at (count_in n); left = a; right = b }) vs))
 
-abbrev body_rest : ℕ → List ℕ → Parsed BodyFact
-body_rest n ws = then (read_args read_term (count_in n) ws) (λ xs us. ok (record { name = name_in n; args = xs }) us)
-
-head_rest_lem : (L : Limits) (s : Stage) (n : ℕ) (ws : List ℕ) → count_in n ≤ 3 →
-    scan L (replicate (count_in n) operand) s ws ≡ onward (head_rest n ws) (λ a us. scan L [] s us)
-head_rest_lem L s n ws m =
-    args_scan L read_operand operand (operand_scan L) (count_in n) m s ws ∙ seq (read_args read_operand (count_in n) ws) _ _ _ (λ a us i. refl)
+atom_rest_lem : {A : Type 0} (L : Limits) (p : List ℕ → Parsed A) (x : Slot) →
+    ((P : List Slot) (s : Stage) (ws : List ℕ) → scan L (x ∷ P) s ws ≡ onward (p ws) (λ a us. scan L P s us)) →
+    (s : Stage) (n : ℕ) (ws : List ℕ) → count_in n ≤ 3 →
+    scan L (replicate (count_in n) x) s ws ≡ onward (atom_rest p n ws) (λ a us. scan L [] s us)
+atom_rest_lem L p x h s n ws m = args_scan L p x h (count_in n) m s ws ∙ seq (read_args p (count_in n) ws) _ _ _ (λ a us i. refl)
 
 guard_rest_lem : (L : Limits) (s : Stage) (n : ℕ) (ws : List ℕ) → scan L (term ∷ term ∷ []) s ws ≡ onward (guard_rest n ws) (λ a us. scan L [] s us)
 guard_rest_lem L s n ws =
     term_scan L (term ∷ []) s ws ∙ seq (read_term ws) _ _ _ (λ a us i. term_scan L [] s us ∙ seq (read_term us) _ _ _ (λ b vs j. refl))
 
-body_rest_lem : (L : Limits) (s : Stage) (n : ℕ) (ws : List ℕ) → count_in n ≤ 3 →
-    scan L (replicate (count_in n) term) s ws ≡ onward (body_rest n ws) (λ a us. scan L [] s us)
-body_rest_lem L s n ws m =
-    args_scan L read_term term (term_scan L) (count_in n) m s ws ∙ seq (read_args read_term (count_in n) ws) _ _ _ (λ a us i. refl)
-
 kept_part : (L : Limits) → Part L read_head 2 (λ s. L.heads - s.heads)
 kept_part L =
-    counted L 2 (λ s. s.heads) L.heads head_rest (omega arith) (omega arith) (λ s n. refl) (λ s. head_rest_lem L (moved [] s 2))
+    counted L 2 (λ s. s.heads) L.heads (atom_rest read_operand) (omega arith) (omega arith) (λ s n. refl) (λ s. atom_rest_lem L read_operand operand (operand_scan L) (moved [] s 2))
     (λ s. refl) (λ s. refl) (λ s. refl)
 
 taken_part : (L : Limits) → Part L read_head 3 (λ s. L.heads - s.heads)
 taken_part L =
-    counted L 3 (λ s. s.heads) L.heads head_rest (omega arith) (omega arith) (λ s n. refl) (λ s. head_rest_lem L (moved [] s 3))
+    counted L 3 (λ s. s.heads) L.heads (atom_rest read_operand) (omega arith) (omega arith) (λ s n. refl) (λ s. atom_rest_lem L read_operand operand (operand_scan L) (moved [] s 3))
     (λ s. refl) (λ s. refl) (λ s. refl)
 
 guard_part : (L : Limits) → Part L read_guard 4 (λ s. L.guards - s.guards)
@@ -159,7 +153,7 @@ guard_part L =
 
 body_part : (L : Limits) → Part L read_body 5 (λ s. L.body - s.body)
 body_part L =
-    counted L 5 (λ s. s.body) L.body body_rest (omega arith) (omega arith) (λ s n. refl) (λ s. body_rest_lem L (moved [] s 5))
+    counted L 5 (λ s. s.body) L.body (atom_rest read_term) (omega arith) (omega arith) (λ s n. refl) (λ s. atom_rest_lem L read_term term (term_scan L) (moved [] s 5))
     (λ s. refl) (λ s. refl) (λ s. refl)
 
 -- the stage after that many parts of kind k

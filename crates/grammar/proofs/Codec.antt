@@ -5,7 +5,7 @@ use Rattle.std.specs.List.{flat_map, AllByRecursion}
 use Rattle.std.proofs.lemmas.Bool.Decides.{nat_tests}
 use Rattle.words.specs.Words.{kind_of, payload_of, word, masks, allowed, clean, name_in, count_in, label_in, signed, unsigned}
 use Rattle.grammar.specs.declared.reason.Reason.{Reason}
-use Rattle.grammar.specs.declared.reason.Reason.TheVariants.{StrayBit, OutOfRange}
+use Rattle.grammar.specs.declared.reason.Reason.TheVariants.{StrayBit}
 use Rattle.grammar.specs.declared.part.Operand.{Operand}
 use Rattle.grammar.specs.declared.part.Operand.TheVariants.{Var, Const}
 use Rattle.grammar.specs.declared.part.Term.{Term}
@@ -14,13 +14,13 @@ use Rattle.grammar.specs.declared.part.Test.{Test}
 use Rattle.grammar.specs.declared.part.Test.TheVariants.{Equal, NotEqual, Less, AtMost}
 use Rattle.args.specs.declared.Args.{Args}
 use Rattle.args.specs.declared.Args.TheVariants.{Zero, One, Two, Three}
-use Rattle.grammar.specs.Atoms.{Head, BodyFact}
+use Rattle.grammar.specs.declared.part.Atom.{Atom}
 use Rattle.grammar.specs.declared.part.Guard.{Guard}
 use Rattle.args.specs.Listed.{listed, amount}
 use Rattle.grammar.specs.Parts.{Parts}
-use Rattle.grammar.specs.Writing.{operand_words, term_words, head_words, test_number, guard_words, body_words, heads_words, tail_words, written}
-use Rattle.grammar.specs.Writing.{Limits, FormedOperand, FormedTerm, FormedHead, FormedGuard, FormedBody, FormedRule, Formed}
-use Rattle.grammar.specs.Reading.{Parsed, ok, no, then, read_operand, read_pair, read_term, read_args, read_head, test_at, read_guard, read_body, read_parts, read_rule, read_rules, read_table}
+use Rattle.grammar.specs.Writing.{operand_words, term_words, atom_words, head_words, test_number, guard_words, body_words, heads_words, tail_words, written}
+use Rattle.grammar.specs.Writing.{Limits, FormedOperand, FormedTerm, FormedAtom, FormedHead, FormedGuard, FormedBody, FormedRule, Formed}
+use Rattle.grammar.specs.Reading.{Parsed, ok, no, then, read_operand, read_pair, read_term, read_args, read_atom, read_head, test_at, read_guard, read_body, read_parts, read_rule, read_rules, read_table}
 use Rattle.grammar.proofs.Payloads.{kind_word, payload_word, payload_lt, word_parts, clean_word, clean_payload, none_only, four_only, four_all, label_only, label_all, const_all}
 use Rattle.grammar.proofs.Payloads.{fact_only, fact_all, name_in_lem, count_in_lem, unsigned_lt, signed_unsigned, signed_back}
 
@@ -208,94 +208,63 @@ pub record ReadsPart {A : Type 0} (read : ℕ → List ℕ → Parsed A) (k : �
   pub all : (a : A) (us : List ℕ) → Good a → read (first a) (rest a ++ us) ≡ ok a us
   pub only : (n : ℕ) (ws : List ℕ) (a : A) (us : List ℕ) → allowed k n ≡ true → read n ws ≡ ok a us → Good a × (n ≡ first a) × (ws ≡ rest a ++ us)
 
--- a name, a count and that many arguments: what heads and body facts share
-module _ {A : Type 0} {read : List ℕ → Parsed A} {words : A → List ℕ} {Good : A → Type 0} (R : Reads read words Good) where
-  named_all : {B : Type 0} (make : ℕ → Args A → B) (name : ℕ) (xs : Args A) (us : List ℕ) → name < 2 ^ 8 → AllByRecursion Good (listed xs) →
-      cond (ltb 3 (count_in (name * 2 ^ 16 + amount xs))) (no OutOfRange (suc (length (flat_map words (listed xs) ++ us))))
-      (then (read_args read (count_in (name * 2 ^ 16 + amount xs)) (flat_map words (listed xs) ++ us)) (λ ys vs. ok (make (name_in (name * 2 ^ 16 + amount xs)) ys) vs))
-      ≡ ok (make name xs) us
-  named_all make name xs us h g =
-      let b : amount xs ≤ 3 = amount_le R xs in
-      let c : count_in (name * 2 ^ 16 + amount xs) ≡ amount xs = count_in_lem name (amount xs) (omega arith) in
-      let n : name_in (name * 2 ^ 16 + amount xs) ≡ name = name_in_lem name (amount xs) h (omega arith) in
-      let t : ltb 3 (amount xs) ≡ false = grind (arith, nat_tests) in
-      rw (c, n, t, args_all R xs us g)
-
-  named_only : {B : Type 0} (make : ℕ → Args A → B) (n : ℕ) (ws : List ℕ) (b : B) (us : List ℕ) →
-      cond (ltb 3 (count_in n)) (no OutOfRange (suc (length ws))) (then (read_args read (count_in n) ws) (λ ys vs. ok (make (name_in n) ys) vs)) ≡ ok b us →
-      (xs : Args A) × AllByRecursion Good (listed xs) × (amount xs ≡ count_in n) × (make (name_in n) xs ≡ b) × (ws ≡ flat_map words (listed xs) ++ us)
-  named_only make n ws b us h =
-      cond_ok (ltb 3 (count_in n)) _ _ b us h
-      (λ t q. no_ok _ _ b us q)
-      (λ t q. then_ok (read_args read (count_in n) ws) _ b us q (λ ys vs i j.
-      let g = args_only R (count_in n) ws ys vs (grind (arith, nat_tests)) i in
-      let e : make (name_in n) ys ≡ b = cc in
-      let f : vs ≡ us = cc in
-      (ys, g.0, g.1, e, g.2 ∙ ap (λ (v : List ℕ). flat_map words (listed ys) ++ v) f)))
-
 name_lt : (n : ℕ) → name_in n < 2 ^ 8
 name_lt n = omega arith
 
 fact_small : (name count : ℕ) → name < 2 ^ 8 → count ≤ 3 → name * 2 ^ 16 + count < 2 ^ 28
 fact_small name count h b = omega arith
 
-abbrev made_head : ℕ → Args Operand → Head
-made_head n xs = record { name = n; args = xs }
-
-abbrev made_body : ℕ → Args Term → BodyFact
-made_body n xs = record { name = n; args = xs }
-
--- the payload of a fact's first word, from its parts
+-- the payload of an atom's first word, from its parts
 same_payload : (n m c : ℕ) → eqb (bit_and n 0xFF000F) n ≡ true → name_in n ≡ m → c ≡ count_in n → n ≡ m * 2 ^ 16 + c
 same_payload n m c h e f = fact_only n h ∙ ap₂ (λ (x y : ℕ). x * 2 ^ 16 + y) e (sym f)
 
--- a head's words, at a kind whose payload is a name and a count
+-- an atom, over arguments that are read and written
+module _ {A : Type 0} {read : List ℕ → Parsed A} {words : A → List ℕ} {Good : A → Type 0} (R : Reads read words Good) where
+  abbrev payload : Atom A → ℕ
+  payload a = a.name * 2 ^ 16 + amount a.args
+
+  atom_all : (a : Atom A) (us : List ℕ) → FormedAtom Good a → read_atom read (payload a) (flat_map words (listed a.args) ++ us) ≡ ok a us
+  atom_all a us g =
+      let b : amount a.args ≤ 3 = amount_le R a.args in
+      let c : count_in (payload a) ≡ amount a.args = count_in_lem a.name (amount a.args) (omega arith) in
+      let n : name_in (payload a) ≡ a.name = name_in_lem a.name (amount a.args) g.0 (omega arith) in
+      let t : ltb 3 (amount a.args) ≡ false = grind (arith, nat_tests) in
+      rw (c, n, t, args_all R a.args us g.1)
+
+  atom_only : (n : ℕ) (ws : List ℕ) (a : Atom A) (us : List ℕ) → eqb (bit_and n 0xFF000F) n ≡ true → read_atom read n ws ≡ ok a us →
+      FormedAtom Good a × (n ≡ payload a) × (ws ≡ flat_map words (listed a.args) ++ us)
+  atom_only n ws a us m h =
+      cond_ok (ltb 3 (count_in n)) _ _ a us h
+      (λ t q. no_ok _ _ a us q)
+      (λ t q. then_ok (read_args read (count_in n) ws) _ a us q (λ xs vs i j.
+      let g = args_only R (count_in n) ws xs vs (grind (arith, nat_tests)) i in
+      let made : record { name = name_in n; args = xs } ≡ a = cc in
+      let e : name_in n ≡ a.name = ap (λ (x : Atom A). x.name) made in
+      let f : xs ≡ a.args = ap (λ (x : Atom A). x.args) made in
+      let v : vs ≡ us = cc in (
+        (subst (λ (x : ℕ). x < 2 ^ 8) e (name_lt n), subst (λ (x : Args A). AllByRecursion Good (listed x)) f g.0),
+        same_payload n a.name (amount a.args) m e (sym (ap amount f) ∙ g.1),
+        g.2 ∙ ap₂ (λ (x : Args A) (y : List ℕ). flat_map words (listed x) ++ y) f v,
+      )))
+
+  pub atom_reads : (k : ℕ) → get_or masks k 0 ≡ 0xFF000F → ReadsPart (read_atom read) k (atom_words words k) (FormedAtom Good)
+  atom_reads k m =
+      record {
+        first = payload;
+        rest = λ a. flat_map words (listed a.args);
+        split = λ a. refl;
+        small = λ a g. fact_small a.name (amount a.args) g.0 (amount_le R a.args);
+        bits = λ a g. let b : amount a.args ≤ 3 = amount_le R a.args in rw m (fact_all a.name (amount a.args) g.0 (omega arith));
+        all = atom_all;
+        only = λ n ws a us b i. let c : eqb (bit_and n 0xFF000F) n ≡ true = rw m at b in atom_only n ws a us c i;
+      }
+
+-- a head, at a kind whose payload is a name and a count
 pub head_reads : (k : ℕ) → get_or masks k 0 ≡ 0xFF000F → ReadsPart read_head k (head_words k) FormedHead
-head_reads k m =
-    record {
-      first = λ h. h.name * 2 ^ 16 + amount h.args;
-      rest = λ h. flat_map operand_words (listed h.args);
-      split = λ h. refl;
-      small = λ h g. fact_small h.name (amount h.args) g.0 (amount_le operand_reads h.args);
-      bits =
-          λ h g.
-          let b : amount h.args ≤ 3 = amount_le operand_reads h.args in
-          rw m (fact_all h.name (amount h.args) g.0 (omega arith));
-      all = λ h us g. named_all operand_reads made_head h.name h.args us g.0 g.1;
-      only =
-          λ n ws h us a i.
-          let g = named_only operand_reads made_head n ws h us i in
-          let e : name_in n ≡ h.name = ap (λ (x : Head). x.name) g.3 in
-          let f : g.0 ≡ h.args = ap (λ (x : Head). x.args) g.3 in
-          let b : eqb (bit_and n 0xFF000F) n ≡ true = rw m at a in (
-            (subst (λ (x : ℕ). x < 2 ^ 8) e (name_lt n), subst (λ (x : Args Operand). AllByRecursion FormedOperand (listed x)) f g.1),
-            same_payload n h.name (amount h.args) b e (sym (ap amount f) ∙ g.2),
-            g.4 ∙ ap (λ (x : Args Operand). flat_map operand_words (listed x) ++ us) f,
-          );
-    }
+head_reads k m = atom_reads operand_reads k m
 
 pub body_reads : ReadsPart read_body 5 body_words FormedBody
-body_reads =
-    record {
-      first = λ h. h.name * 2 ^ 16 + amount h.args;
-      rest = λ h. flat_map term_words (listed h.args);
-      split = λ h. refl;
-      small = λ h g. fact_small h.name (amount h.args) g.0 (amount_le term_reads h.args);
-      bits =
-          λ h g.
-          let b : amount h.args ≤ 3 = amount_le term_reads h.args in
-          fact_all h.name (amount h.args) g.0 (omega arith);
-      all = λ h us g. named_all term_reads made_body h.name h.args us g.0 g.1;
-      only =
-          λ n ws h us a i.
-          let g = named_only term_reads made_body n ws h us i in
-          let e : name_in n ≡ h.name = ap (λ (x : BodyFact). x.name) g.3 in
-          let f : g.0 ≡ h.args = ap (λ (x : BodyFact). x.args) g.3 in (
-            (subst (λ (x : ℕ). x < 2 ^ 8) e (name_lt n), subst (λ (x : Args Term). AllByRecursion FormedTerm (listed x)) f g.1),
-            same_payload n h.name (amount h.args) a e (sym (ap amount f) ∙ g.2),
-            g.4 ∙ ap (λ (x : Args Term). flat_map term_words (listed x) ++ us) f,
-          );
-    }
+body_reads = atom_reads term_reads 5 refl
 
 test_le : (t : Test) → test_number t ≤ 3
 test_le Equal = omega arith

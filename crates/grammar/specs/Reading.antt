@@ -11,6 +11,7 @@ use Rattle.grammar.specs.declared.part.Test.{Test}
 use Rattle.grammar.specs.declared.part.Test.TheVariants.{Equal, NotEqual, Less, AtMost}
 use Rattle.args.specs.declared.Args.{Args}
 use Rattle.args.specs.declared.Args.TheVariants.{Zero, One, Two, Three}
+use Rattle.grammar.specs.declared.part.Atom.{Atom}
 use Rattle.grammar.specs.Atoms.{Head, BodyFact}
 use Rattle.grammar.specs.declared.part.Guard.{Guard}
 use Rattle.grammar.specs.Parts.{Parts}
@@ -56,11 +57,14 @@ read_args p (suc (suc zero)) ws = then (p ws) (λ a us. then (p us) (λ b vs. ok
 read_args p (suc (suc (suc n))) ws =
     then (p ws) (λ a us. then (p us) (λ b vs. then (p vs) (λ c xs. ok (Three a b c) xs)))
 
--- the rest of a head, given its first word's payload
-abbrev pub read_head : ℕ → List ℕ → Parsed Head
-read_head n ws =
+-- the rest of an atom, given its first word's payload
+abbrev pub read_atom : {A : Type 0} → (List ℕ → Parsed A) → ℕ → List ℕ → Parsed (Atom A)
+read_atom p n ws =
     cond (nat_lt 3 (count_in n)) (no OutOfRange (suc (length ws)))
-    (then (read_args read_operand (count_in n) ws) (λ xs us. ok (record { name = name_in n; args = xs }) us))
+    (then (read_args p (count_in n) ws) (λ xs us. ok (record { name = name_in n; args = xs }) us))
+
+abbrev pub read_head : ℕ → List ℕ → Parsed Head
+read_head n ws = read_atom read_operand n ws
 
 abbrev pub test_at : ℕ → Test
 test_at zero = Equal
@@ -74,9 +78,7 @@ read_guard n ws =
     (then (read_term ws) (λ a us. then (read_term us) (λ b vs. ok (record { test = test_at (count_in n); left = a; right = b }) vs)))
 
 abbrev pub read_body : ℕ → List ℕ → Parsed BodyFact
-read_body n ws =
-    cond (nat_lt 3 (count_in n)) (no OutOfRange (suc (length ws)))
-    (then (read_args read_term (count_in n) ws) (λ xs us. ok (record { name = name_in n; args = xs }) us))
+read_body n ws = read_atom read_term n ws
 
 -- the parts of one kind that stand next, `room` at most
 abbrev pub read_parts : {A : Type 0} → (ℕ → List ℕ → Parsed A) → ℕ → ℕ → List ℕ → Parsed (List A)

@@ -8,6 +8,7 @@ use Rattle.grammar.specs.declared.part.Term.{Term}
 use Rattle.grammar.specs.declared.part.Term.TheVariants.{One, Sum, Diff}
 use Rattle.grammar.specs.declared.part.Test.{Test}
 use Rattle.grammar.specs.declared.part.Test.TheVariants.{Equal, NotEqual, Less, AtMost}
+use Rattle.grammar.specs.declared.part.Atom.{Atom}
 use Rattle.grammar.specs.Atoms.{Head, BodyFact}
 use Rattle.grammar.specs.declared.part.Guard.{Guard}
 use Rattle.args.specs.Listed.{listed, amount}
@@ -22,9 +23,13 @@ term_words (One a) = operand_words a
 term_words (Sum a b) = word 8 0 ∷ (operand_words a ++ operand_words b)
 term_words (Diff a b) = word 9 0 ∷ (operand_words a ++ operand_words b)
 
--- a KEPT or TAKEN word, by its kind, and the operands
+-- a word of that kind with the name and the amount, and the arguments
+abbrev pub atom_words : {A : Type 0} → (A → List ℕ) → ℕ → Atom A → List ℕ
+atom_words words k a = word k (a.name * 2 ^ 16 + amount a.args) ∷ flat_map words (listed a.args)
+
+-- a head: by its kind it is kept or taken
 abbrev pub head_words : ℕ → Head → List ℕ
-head_words k h = word k (h.name * 2 ^ 16 + amount h.args) ∷ flat_map operand_words (listed h.args)
+head_words k h = atom_words operand_words k h
 
 abbrev pub test_number : Test → ℕ
 test_number Equal = 0
@@ -36,7 +41,7 @@ abbrev pub guard_words : Guard → List ℕ
 guard_words g = word 4 (test_number g.test) ∷ (term_words g.left ++ term_words g.right)
 
 abbrev pub body_words : BodyFact → List ℕ
-body_words b = word 5 (b.name * 2 ^ 16 + amount b.args) ∷ flat_map term_words (listed b.args)
+body_words b = atom_words term_words 5 b
 
 abbrev pub heads_words : Parts → List ℕ
 heads_words r = flat_map (head_words 2) r.kept ++ flat_map (head_words 3) r.taken
@@ -71,14 +76,17 @@ FormedTerm (One a) = FormedOperand a
 FormedTerm (Sum a b) = FormedOperand a × FormedOperand b
 FormedTerm (Diff a b) = FormedOperand a × FormedOperand b
 
+abbrev pub FormedAtom : {A : Type 0} → (A → Type 0) → Atom A → Type 0
+FormedAtom Formed a = (a.name < 2 ^ 8) × AllByRecursion Formed (listed a.args)
+
 abbrev pub FormedHead : Head → Type 0
-FormedHead h = (h.name < 2 ^ 8) × AllByRecursion FormedOperand (listed h.args)
+FormedHead h = FormedAtom FormedOperand h
 
 abbrev pub FormedGuard : Guard → Type 0
 FormedGuard g = FormedTerm g.left × FormedTerm g.right
 
 abbrev pub FormedBody : BodyFact → Type 0
-FormedBody b = (b.name < 2 ^ 8) × AllByRecursion FormedTerm (listed b.args)
+FormedBody b = FormedAtom FormedTerm b
 
 -- numbers and amounts of a rule are in range; a head follows the RULE word
 pub record FormedRule (L : Limits) (r : Parts) : Type 0 where
