@@ -43,13 +43,16 @@ pub fn candidates_are_counted<F, R>()
 
 // The worked runs are runs, with the answers that they show, and their tables are well formed.
 pub fn worked_runs()
-    ensures tables { WellFormed keeping × WellFormed raising × WellFormed reporting }
+    ensures keeps { WellFormed keeping }
+    ensures raises { WellFormed raising }
+    ensures reports { WellFormed reporting }
     ensures widths { Widths }
     ensures removal { Removal }
     ensures partner { PartnerGone }
     ensures own { OwnGone }
     ensures rest { Rest }
-    ensures refusals { (Refusals) × (NoNumber) }
+    ensures refusals { Refusals }
+    ensures none_left { NoNumber }
     ensures body { Raise }
     ensures order { GoneFirst }
 {}

@@ -4,13 +4,16 @@ use Rattle.laws.proofs.Examples.{keeping_good, raising_good, reporting_good, wid
 pub returns : goal.returns
 returns c =
     record {
-      tables = (keeping_good, raising_good, reporting_good);
+      keeps = keeping_good;
+      raises = raising_good;
+      reports = reporting_good;
       widths = widths;
       removal = removal;
       partner = partner_gone;
       own = own_gone;
       rest = rest;
-      refusals = (refusals, no_number_left);
+      refusals = refusals;
+      none_left = no_number_left;
       body = raise;
       order = gone_first;
     }
