@@ -1,5 +1,4 @@
-use crate::first::FirstFirst;
-use crate::last::LastFirst;
+use crate::ring::{FirstFirst, LastFirst};
 use crate::list::WaitingList;
 use facts::{Fact, Kind, Reading, read_fact};
 use std::process::Abort;

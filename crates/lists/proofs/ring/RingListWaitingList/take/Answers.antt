@@ -1,0 +1,38 @@
+use Rattle.std.proofs.Common.{◌≡◌, ◌<◌, ◌≤◌, length, arith, rules, ◌-◌, ◌+◌, ◌∙◌, min, length-take, not, nat_eq}
+use Rattle.lists.specs.Built.{kept, used, rotated, waiting}
+use Rattle.lists.proofs.Fronts.{front_length}
+use Rattle.lists.proofs.Rings.{rotated_length}
+use Rattle.lists.proofs.Takes.{gives_end, ring_gives}
+use Rattle.lists.specs.Waiting.{GivesEnd}
+use Rattle.std.proofs.Common.{Some}
+use Rattle.lists.proofs.ring.RingListWaitingList.take.Goals as goal
+use Rattle.lists.proofs.ring.RingListWaitingList.take.Goals.{then-this-ne0, else-this-ne0, then-this-ne0-2, else-this-ne0-2}
+
+pub offset_bounds-self-at : goal.offset_bounds-self-at
+offset_bounds-self-at g c =
+    let h : c.slot-at.result < length c.args.self.now.memory.now = omega (arith, c.slot-at.ensures.0) in
+    search rules
+
+pub returns : goal.returns
+returns g c =
+    let means = g.V.Kind.meaning in
+    let s = c.args.self.now in
+    let m = s.memory.now in
+    let n = c.count-count.result in
+    let at = c.slot-at.result in
+    let u = length-take 4096 m in
+    let r = rotated_length s.first (used m) in
+    let k : n ≡ min s.len (min 4096 (length m)) = omega (arith, c.count-count.ensures.count, front_length (kept means) s.len (rotated s.first (used m))) in
+    let last : (g.row.LAST ≡ 0 → ⊥) → (c.if-this-ne0.position ≡ n - 1) × (c.if-this-ne0-2.self ≡ s.first) =
+    λ e. (
+      elim c.if-this-ne0.branch [ then-this-ne0 w ↦ w.position-is | else-this-ne0 w ↦ absurd (e w.if-this-ne0.false) ],
+      elim c.if-this-ne0-2.branch [ then-this-ne0-2 w ↦ w.self-is | else-this-ne0-2 w ↦ absurd (e w.if-this-ne0-2.false) ],
+    ) in
+    let first : g.row.LAST ≡ 0 → (c.if-this-ne0.position ≡ 0) × (c.if-this-ne0-2.self ≡ at + 1) =
+    λ e. (
+      elim c.if-this-ne0.branch [ then-this-ne0 w ↦ absurd (w.if-this-ne0.true e) | else-this-ne0 w ↦ w.position-is ],
+      elim c.if-this-ne0-2.branch [ then-this-ne0-2 w ↦ absurd (w.if-this-ne0-2.true e) | else-this-ne0-2 w ↦ w.self-is ],
+    ) in
+    let e = ring_gives means s.first at s.len n m c.index-self-at.result c.cut_count.result k (omega arith) c.cut_count.ensures g.row.LAST c.if-this-ne0.position c.if-this-ne0-2.self c.slot-at.ensures last first in
+    let l : c.cut_count.result.count ≤ 3 = rw c.cut_count.ensures (omega arith) in
+    record { gives = gives_end (not (nat_eq g.row.LAST 0)) means (waiting means s) _ c.cut_count.result l e; fixed = search rules; order = e; same = search rules }
