@@ -1,3 +1,3 @@
 mod Fronts
+mod Held
 mod Rings
-mod Takes

@@ -5,7 +5,7 @@ ghost use Rattle.lists.specs.Waiting.{Joins, Gives};
 
 use facts::{Fact, Kind};
 
-// A waiting list: facts in order on a memory, with a fixed capacity.
+// A waiting list: facts in order, in a memory of their own, with a fixed capacity.
 pub trait WaitingList<V: Kind> {
     ghost waiting: { Self → List Meaning };
 
@@ -13,8 +13,8 @@ pub trait WaitingList<V: Kind> {
 
     ghost memory: { Self → List (Fact V) };
 
-    // Which fact a take gives: from what waits, the answer, and what then waits.
-    ghost Takes: { List Meaning → Option (Fact V) → List Meaning → Type 0 };
+    // Which fact is next: of what waits, the answer of a take, and what then waits.
+    ghost in_order: { List Meaning → Option (Fact V) → List Meaning → Type 0 };
 
     // Puts the fact at the end, and says whether it could.
     fn put(&mut self, fact: &Fact<V>) -> bool
@@ -26,7 +26,7 @@ pub trait WaitingList<V: Kind> {
     fn take(&mut self) -> Option<Fact<V>>
         ensures gives { Gives V.Kind.meaning (waiting self.old) result (waiting self.new) }
         ensures fixed { capacity self.new ≡ capacity self.old }
-        ensures order { Takes (waiting self.old) result (waiting self.new) }
+        ensures order { in_order (waiting self.old) result (waiting self.new) }
         ensures same { memory self.new ≡ memory self.old };
 
     // How many facts wait.

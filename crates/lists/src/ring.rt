@@ -5,9 +5,9 @@ ghost use Rattle.lists.specs.Waiting.{GivesEnd};
 use crate::list::{MOST_WAITING, WaitingList};
 use facts::{Fact, Kind, MOST_ARGS, cut_count};
 
-// A list on the caller's memory: lent memory and a length beside it, for there is no heap. The memory is
-// a ring: the facts stand from the index first on, going round. Facts join at the end, and are taken from
-// the end or from the start.
+// A list on the caller's memory. The memory is a ring: the facts stand from the index first on, going
+// round. A fact joins at the end; one is taken from the end where LAST holds, else from the start.
+// There is no heap, so the memory is lent by the caller, with a length beside it.
 #[derive(Drop)]
 pub struct RingList<'a, V, const LAST: bool> {
     memory: &'a mut [Fact<V>],
@@ -41,11 +41,7 @@ impl<'a, V: Kind, const LAST: bool> RingList<'a, V, LAST> {
         ensures { Slot self.now.first position (capacity self.now) result }
     {
         let capacity = self.capacity();
-        let start = if self.first < capacity {
-            self.first
-        } else {
-            0
-        };
+        let start = if self.first < capacity { self.first } else { 0 };
         let place = start + position;
         if place < capacity {
             place
@@ -62,7 +58,7 @@ impl<'a, V: Kind, const LAST: bool> WaitingList<V> for RingList<'a, V, LAST> {
 
     ghost memory = { λ l. l.memory.now };
 
-    ghost Takes = { GivesEnd LAST V.Kind.meaning };
+    ghost in_order = { GivesEnd LAST V.Kind.meaning };
 
     fn put(&mut self, fact: &Fact<V>) -> bool {
         let count = self.count();

@@ -1,19 +1,12 @@
-use Rattle.std.proofs.Common.{◌≡◌, length, sym, ◌∙◌, arith, length-take}
+use Rattle.std.proofs.Common.{arith}
 use Rattle.std.proofs.lemmas.List.{nil_from_length}
-use Rattle.lists.specs.Built.{waiting, kept, used, rotated}
-use Rattle.lists.proofs.Fronts.{front_length}
-use Rattle.lists.proofs.Rings.{rotated_length}
+use Rattle.lists.specs.Built.{waiting}
+use Rattle.lists.proofs.Held.{waiting_length}
 use Rattle.lists.proofs.ring.RingListWaitingList.count.Goals as goal
 
-pub returns : goal.returns
-returns g c =
-    let s = c.args.self.now in
-    let e = front_length (kept g.V.Kind.meaning) s.len (rotated s.first (used s.memory.now)) in
-    let r = rotated_length s.first (used s.memory.now) in
-    let u = length-take 4096 s.memory.now in
-    let k : c.min.result ≡ length (waiting g.V.Kind.meaning s) = omega (arith, c.min.ensures, c.capacity.ensures.value) in
-    record {
-      count = k;
-      within = omega (arith, c.min.ensures, c.capacity.ensures.value);
-      none = λ z. nil_from_length (waiting g.V.Kind.meaning s) (sym k ∙ z);
-    }
+pub returns-clause-count : goal.returns-clause-count
+returns-clause-count g c = omega (arith, waiting_length g.V.Kind.meaning c.args.self.now)
+
+pub returns-clause-none : goal.returns-clause-none
+returns-clause-none g c z =
+    nil_from_length (waiting g.V.Kind.meaning c.args.self.now) (omega (arith, waiting_length g.V.Kind.meaning c.args.self.now))

@@ -1,10 +1,7 @@
-use Rattle.std.proofs.Common.{◌≡◌, ◌<◌, ◌≤◌, length, arith, rules, ◌-◌, ◌+◌, ◌∙◌, min, length-take, not, nat_eq}
-use Rattle.lists.specs.Built.{kept, used, rotated, waiting}
-use Rattle.lists.proofs.Fronts.{front_length}
-use Rattle.lists.proofs.Rings.{rotated_length}
-use Rattle.lists.proofs.Takes.{gives_end, ring_gives}
-use Rattle.lists.specs.Waiting.{GivesEnd}
-use Rattle.std.proofs.Common.{Some}
+use Rattle.std.proofs.Common.{◌≡◌, ◌<◌, ◌≤◌, length, arith, rules, ◌-◌, ◌+◌, min, not, nat_eq}
+use Rattle.lists.specs.Built.{waiting}
+use Rattle.lists.proofs.Fronts.{gives_end}
+use Rattle.lists.proofs.Held.{waiting_length, ring_gives}
 use Rattle.lists.proofs.ring.RingListWaitingList.take.Goals as goal
 use Rattle.lists.proofs.ring.RingListWaitingList.take.Goals.{then-this-ne0, else-this-ne0, then-this-ne0-2, else-this-ne0-2}
 
@@ -20,9 +17,7 @@ returns g c =
     let m = s.memory.now in
     let n = c.count-count.result in
     let at = c.slot-at.result in
-    let u = length-take 4096 m in
-    let r = rotated_length s.first (used m) in
-    let k : n ≡ min s.len (min 4096 (length m)) = omega (arith, c.count-count.ensures.count, front_length (kept means) s.len (rotated s.first (used m))) in
+    let k : n ≡ min s.len (min 4096 (length m)) = omega (arith, waiting_length means s) in
     let last : (g.row.LAST ≡ 0 → ⊥) → (c.if-this-ne0.position ≡ n - 1) × (c.if-this-ne0-2.self ≡ s.first) =
     λ e. (
       elim c.if-this-ne0.branch [ then-this-ne0 w ↦ w.position-is | else-this-ne0 w ↦ absurd (e w.if-this-ne0.false) ],
@@ -33,6 +28,6 @@ returns g c =
       elim c.if-this-ne0.branch [ then-this-ne0 w ↦ absurd (w.if-this-ne0.true e) | else-this-ne0 w ↦ w.position-is ],
       elim c.if-this-ne0-2.branch [ then-this-ne0-2 w ↦ absurd (w.if-this-ne0-2.true e) | else-this-ne0-2 w ↦ w.self-is ],
     ) in
-    let e = ring_gives means s.first at s.len n m c.index-self-at.result c.cut_count.result k (omega arith) c.cut_count.ensures g.row.LAST c.if-this-ne0.position c.if-this-ne0-2.self c.slot-at.ensures last first in
+    let e = ring_gives means s.first at s.len n m k c.index-self-at.result c.cut_count.result (omega arith) c.cut_count.ensures g.row.LAST c.if-this-ne0.position c.if-this-ne0-2.self c.slot-at.ensures last first in
     let l : c.cut_count.result.count ≤ 3 = rw c.cut_count.ensures (omega arith) in
     record { gives = gives_end (not (nat_eq g.row.LAST 0)) means (waiting means s) _ c.cut_count.result l e; fixed = search rules; order = e; same = search rules }
