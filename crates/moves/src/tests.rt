@@ -24,25 +24,31 @@ fn argument<V: Kind, S: Store<V>>(store: &S, place: usize) -> Option<i32> {
 
 // Moves two of three facts into a store of two places, with every refusal on the way.
 // Answers the arguments at the places 0 and 1.
-fn moved<V: Kind, L: WaitingList<V>, S: Store<V>>(
+fn moved<V: Kind, L: WaitingList<V> + Drop, S: Store<V> + Drop>(
     rt: &impl Abort,
-    list: &mut L,
-    store: &mut S,
+    mut list: L,
+    mut store: S,
     facts: &[Fact<V>],
 ) -> Result<(i32, i32), Fail> {
-    assert_eq!(rt; move_one(list, store, 0), Err(Refusal::NoneWaits));
+    assert_eq!(rt; move_one(&mut list, &mut store, 0), Err(Refusal::NoneWaits));
     for fact in facts {
         assert!(rt; list.put(fact));
     }
-    assert_eq!(rt; move_one(list, store, 0), Err(Refusal::NumberZero));
-    let first = move_one(list, store, 1)?;
-    let second = move_one(list, store, 2)?;
+    assert_eq!(rt;
+        move_one(&mut list, &mut store, 0),
+        Err(Refusal::NumberZero)
+    );
+    let first = move_one(&mut list, &mut store, 1)?;
+    let second = move_one(&mut list, &mut store, 2)?;
     assert_ne!(rt; first, second);
-    assert_eq!(rt; move_one(list, store, 3), Err(Refusal::NoRoom));
-    assert_eq!(rt; move_one(list, store, 0), Err(Refusal::NumberZero));
+    assert_eq!(rt; move_one(&mut list, &mut store, 3), Err(Refusal::NoRoom));
+    assert_eq!(rt;
+        move_one(&mut list, &mut store, 0),
+        Err(Refusal::NumberZero)
+    );
     assert_eq!(rt; list.count(), 1);
-    let low = argument(store, 0).ok_or("held")?;
-    let high = argument(store, 1).ok_or("held")?;
+    let low = argument(&store, 0).ok_or("held")?;
+    let high = argument(&store, 1).ok_or("held")?;
     Ok((low, high))
 }
 
@@ -55,30 +61,10 @@ fn moved_between_all<V: Kind>(
     words: &mut [PackedCell<V>],
 ) -> Result<[(i32, i32); 4], Fail> {
     Ok([
-        moved(
-            rt,
-            &mut LastFirst::new(memory),
-            &mut FlatStore::new(cells),
-            facts,
-        )?,
-        moved(
-            rt,
-            &mut LastFirst::new(memory),
-            &mut PackedStore::new(words),
-            facts,
-        )?,
-        moved(
-            rt,
-            &mut FirstFirst::new(memory),
-            &mut FlatStore::new(cells),
-            facts,
-        )?,
-        moved(
-            rt,
-            &mut FirstFirst::new(memory),
-            &mut PackedStore::new(words),
-            facts,
-        )?,
+        moved(rt, LastFirst::new(memory), FlatStore::new(cells), facts)?,
+        moved(rt, LastFirst::new(memory), PackedStore::new(words), facts)?,
+        moved(rt, FirstFirst::new(memory), FlatStore::new(cells), facts)?,
+        moved(rt, FirstFirst::new(memory), PackedStore::new(words), facts)?,
     ])
 }
 
