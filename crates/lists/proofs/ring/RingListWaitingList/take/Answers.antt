@@ -1,4 +1,4 @@
-use Rattle.std.proofs.Common.{◌≡◌, ◌<◌, ◌≤◌, length, arith, rules, ◌-◌, ◌+◌, min, not, nat_eq}
+use Rattle.std.proofs.Common.{refl, ◌≡◌, ◌<◌, ◌≤◌, length, arith, rules, ◌-◌, ◌+◌, min, not, nat_eq}
 use Rattle.lists.specs.Built.{waiting}
 use Rattle.lists.proofs.Fronts.{gives_end}
 use Rattle.lists.proofs.Held.{waiting_length, ring_gives}
@@ -20,14 +20,14 @@ returns g c =
     let k : n ≡ min s.len (min 4096 (length m)) = omega (arith, waiting_length means s) in
     let last : (g.row.LAST ≡ 0 → ⊥) → (c.if-this-ne0.position ≡ n - 1) × (c.if-this-ne0-2.self ≡ s.first) =
     λ e. (
-      elim c.if-this-ne0.branch [ then-this-ne0 w ↦ w.position-is | else-this-ne0 w ↦ absurd (e w.if-this-ne0.false) ],
-      elim c.if-this-ne0-2.branch [ then-this-ne0-2 w ↦ w.self-is | else-this-ne0-2 w ↦ absurd (e w.if-this-ne0-2.false) ],
+      elim c.if-this-ne0.branch [ then-this-ne0 w ↦ omega arith | else-this-ne0 w ↦ absurd (e (omega arith)) ],
+      elim c.if-this-ne0-2.branch [ then-this-ne0-2 w ↦ omega arith | else-this-ne0-2 w ↦ absurd (e (omega arith)) ],
     ) in
     let first : g.row.LAST ≡ 0 → (c.if-this-ne0.position ≡ 0) × (c.if-this-ne0-2.self ≡ at + 1) =
     λ e. (
-      elim c.if-this-ne0.branch [ then-this-ne0 w ↦ absurd (w.if-this-ne0.true e) | else-this-ne0 w ↦ w.position-is ],
-      elim c.if-this-ne0-2.branch [ then-this-ne0-2 w ↦ absurd (w.if-this-ne0-2.true e) | else-this-ne0-2 w ↦ w.self-is ],
+      elim c.if-this-ne0.branch [ then-this-ne0 w ↦ omega arith | else-this-ne0 w ↦ omega arith ],
+      elim c.if-this-ne0-2.branch [ then-this-ne0-2 w ↦ omega arith | else-this-ne0-2 w ↦ omega arith ],
     ) in
     let e = ring_gives means s.first at s.len n m k c.index-self-at.result c.cut_count.result (omega arith) c.cut_count.ensures g.row.LAST c.if-this-ne0.position c.if-this-ne0-2.self c.slot-at.ensures last first in
     let l : c.cut_count.result.count ≤ 3 = rw c.cut_count.ensures (omega arith) in
-    record { gives = gives_end (not (nat_eq g.row.LAST 0)) means (waiting means s) _ c.cut_count.result l e; fixed = search rules; order = e; same = search rules }
+    record { gives = gives_end (not (nat_eq g.row.LAST 0)) means (waiting means s) _ c.cut_count.result l e; fixed = refl; order = e; same = refl }
