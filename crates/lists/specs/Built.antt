@@ -1,5 +1,5 @@
 -- What waits in a built list. Every value of it has a meaning.
-use Rattle.std.specs.Prelude.{◌≡◌, ℕ, ◌+◌, ◌<◌, min, cond, ◌⊎◌, List, ◌++◌, map, length, take, drop, ℤ, nat_lt}
+use Rattle.std.specs.Prelude.{◌≡◌, ℕ, ◌+◌, ◌<◌, min, cond, ◌⊎◌, List, ◌++◌, map, length, take, drop, ℤ, nat_eq, nat_lt}
 use Rattle.facts.specs.declared.fact.Fact.{Fact}
 use Rattle.facts.specs.Meanings.{Meaning, meaning}
 use Rattle.facts.specs.Reads.{cut}
@@ -25,9 +25,12 @@ abbrev pub Slot : ℕ → ℕ → ℕ → ℕ → Type 0
 Slot first k capacity r =
     (r < capacity) × ((r ≡ ring_start first capacity + k) ⊎ (r + capacity ≡ ring_start first capacity + k))
 
--- the facts that a ring holds, in order
+-- where a list starts in its memory: at its front where the last fact is given, else at the index first
+abbrev pub start : {V : Type 0} {last : ℕ} → RingList V last → ℕ
+start {last} l = cond (nat_eq last 0) l.first 0
+
 abbrev pub waiting : {V : Type 0} {last : ℕ} → (V → ℤ) → RingList V last → List Meaning
-waiting means l = map (kept means) (take l.len (rotated l.first (used l.memory.now)))
+waiting means l = map (kept means) (take l.len (rotated (start l) (used l.memory.now)))
 
 abbrev pub capacity : {V : Type 0} {last : ℕ} → RingList V last → ℕ
 capacity l = min 4096 (length l.memory.now)

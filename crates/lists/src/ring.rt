@@ -1,12 +1,13 @@
 ghost use Rattle.std.specs.Prelude.{◌≡◌, ◌<◌, min, ◌⊎◌, [], length};
-ghost use Rattle.lists.specs.Built.{waiting, capacity, Slot};
+ghost use Rattle.lists.specs.Built.{waiting, capacity, start, Slot};
 ghost use Rattle.lists.specs.Waiting.{GivesEnd};
 
 use crate::list::{MOST_WAITING, WaitingList};
 use facts::{Fact, Kind, MOST_ARGS, cut_count};
 
-// A list on the caller's memory. The memory is a ring: the facts stand from the index first on, going
-// round. A fact joins at the end; one is taken from the end where LAST holds, else from the start.
+// A list on the caller's memory. A fact joins at the end; one is taken from the end where LAST holds, else
+// from the start. Where LAST holds the facts stand at the front of the memory; else the memory is a ring:
+// they stand from the index first on, going round.
 // There is no heap, so the memory is lent by the caller, with a length beside it.
 #[derive(Drop)]
 pub struct RingList<'a, V, const LAST: bool> {
@@ -38,10 +39,14 @@ impl<'a, V: Kind, const LAST: bool> RingList<'a, V, LAST> {
     // Where the fact at a position stands in the memory.
     fn slot(&self, position: usize) -> usize
         requires { position < capacity self.now }
-        ensures { Slot self.now.first position (capacity self.now) result }
+        ensures { Slot (start self.now) position (capacity self.now) result }
     {
         let capacity = self.capacity();
-        let start = if self.first < capacity { self.first } else { 0 };
+        let start = if LAST || self.first >= capacity {
+            0
+        } else {
+            self.first
+        };
         let place = start + position;
         if place < capacity {
             place

@@ -1,5 +1,6 @@
 use Rattle.std.proofs.Common.{◌≡◌, ◌<◌, min, length, arith, rules}
 use Rattle.std.proofs.lemmas.List.{drop-set-lt}
+use Rattle.lists.specs.Built.{start}
 use Rattle.lists.proofs.Held.{waiting_length, ring_joins}
 use Rattle.lists.proofs.ring.RingListWaitingList.put.Goals as goal
 
@@ -16,7 +17,7 @@ returns-clause-joins g c =
     let i : n < min 4096 (length s.memory.now) = omega arith in (
       omega arith,
       omega arith,
-      ring_joins g.V.Kind.meaning s.first c.slot-at.result s.len n s.memory.now k c.args.fact.now i c.slot-at.ensures (omega arith),
+      ring_joins g.V.Kind.meaning (start s) c.slot-at.result s.len n s.memory.now k c.args.fact.now i c.slot-at.ensures (omega arith),
     )
 
 pub returns-clause-beyond : goal.returns-clause-beyond
