@@ -9,11 +9,13 @@ use std::alloc::{AllocError, Global};
 pub fn words_of(heap: Global, bytes: &[u8], most: usize) -> Result<Vec<u32>, AllocError>
     ensures { IfOk result (λ v. v.items ≡ words_in bytes.now (min (length bytes.now / 4) most)) }
 {
-    let mut words = Vec::new(heap);
-    for i in 0..(bytes.len() / 4).min(most) {
-        let at = 4 * i;
-        let high = bytes[at] as u32 * 0x100_0000 + bytes[at + 1] as u32 * 0x1_0000;
-        words.push(high + bytes[at + 2] as u32 * 0x100 + bytes[at + 3] as u32)?;
-    }
-    Ok(words)
+    let (words, _) = bytes.as_chunks::<4>();
+    words
+        .iter()
+        .take(most)
+        .map(|word| u32::from_be_bytes(*word))
+        .collect(heap)
 }
+
+#[cfg(test)]
+mod tests;

@@ -1,2 +1,3 @@
 mod Fronts
+mod Held
 mod Rings

@@ -1,9 +1,9 @@
 -- A list read going round.
 use Rattle.std.proofs.Common.{◌≡◌, ℕ, suc, ◌+◌, ◌-◌, ◌<◌, ◌≤◌, min, cond, List, [], ◌∷◌, ◌++◌, map, length, get_or, take, drop, set, sym, refl, ap, ◌∙◌, ⊎_elim, append_assoc, append-nil, arith, length-append, length-drop, length-set, length-take}
 use lib.Seq.{take-set-lt}
-use Rattle.std.proofs.lemmas.List.{take_all, drop_all, take_more, drop_more, drop-set-add, drop-set-lt, take-set-le, set-append_left, set-append_right}
+use Rattle.std.proofs.lemmas.List.{take_all, drop_all, take_more, drop_more, drop-set-add, drop-set-lt, take-set-le, set-append_left, set-append_right, get_or-drop, get_or-take, get_or_append_left, get_or-append_right}
 use Rattle.std.proofs.lemmas.Bool.{cases_lt, lt-ltb, le-ltb}
-use Rattle.lists.proofs.Fronts.{front_first}
+use Rattle.lists.proofs.Fronts.{front_first, front_last}
 use Rattle.lists.specs.Built.{rotated, ring_start, Slot}
 
 pub rotated_length : {X : Type 0} (k : ℕ) (xs : List X) → length (rotated k xs) ≡ length xs
@@ -63,6 +63,34 @@ rotated_set first n r capacity xs x c m h =
     ⊎_elim (λ e. set_near s n r xs x l n' e i) (λ e. set_far s n r xs x l n' (omega arith)) h.1 in
     cc
 
+module _ {X : Type 0} (s n r : ℕ) (xs : List X) (d : X) (l : s < length xs) (m : n < length xs) where
+  get_near : r ≡ s + n → r < length xs → get_or (rotated s xs) n d ≡ get_or xs r d
+  get_near e h =
+      let a : n < length (drop s xs) = simp length-drop (omega arith) in
+      let q = get_or_append_left (drop s xs) (take s xs) d n a in
+      let t = get_or-drop s xs n d in
+      cc
+
+  get_far : r + length xs ≡ s + n → get_or (rotated s xs) n d ≡ get_or xs r d
+  get_far e =
+      let h : r < s = omega arith in
+      let g : n - (length xs - s) ≡ r = omega arith in
+      let q = get_or-append_right (drop s xs) (take s xs) (length xs - s) n d (length-drop s xs) (omega arith) in
+      let t = get_or-take s xs r d h in
+      cc
+
+-- what stands at a slot stands at its position
+pub rotated_get : {X : Type 0} (first n r capacity : ℕ) (xs : List X) (d : X) → capacity ≡ length xs → n < capacity → Slot first n capacity r → get_or (rotated first xs) n d ≡ get_or xs r d
+rotated_get first n r capacity xs d c m h =
+    let s = ring_start first capacity in
+    let l : s < length xs = omega (arith, start_below first capacity (omega arith)) in
+    let n' : n < length xs = omega arith in
+    let b = rotated_start first xs in
+    let i : r < length xs = omega (arith, h.0) in
+    let k : get_or (rotated s xs) n d ≡ get_or xs r d =
+    ⊎_elim (λ e. get_near s n r xs d l n' e i) (λ e. get_far s n r xs d l n' (omega arith)) h.1 in
+    cc
+
 -- what comes after the first
 pub ring_rest : {X : Type 0} → ℕ → List X → List X
 ring_rest k xs = drop (k + 1) xs ++ take k xs
@@ -80,8 +108,8 @@ rotated_next k xs d h =
     cc
 
 -- the first of a ring apart: it stands at the slot of position 0, and the ring then starts after it
-pub ring_take : {X Y : Type 0} (f : X → Y) (first r capacity n k : ℕ) (xs : List X) (d : X) → capacity ≡ length xs → 0 < capacity → Slot first 0 capacity r → k ≡ min n (length xs) → 0 < k → map f (take n (rotated first xs)) ≡ f (get_or xs r d) ∷ map f (take (k - 1) (rotated (r + 1) xs))
-ring_take f first r capacity n k xs d c p h e q =
+pub ring_first : {X Y : Type 0} (f : X → Y) (first r capacity n k : ℕ) (xs : List X) (d : X) → capacity ≡ length xs → 0 < capacity → Slot first 0 capacity r → k ≡ min n (length xs) → 0 < k → map f (take n (rotated first xs)) ≡ f (get_or xs r d) ∷ map f (take (k - 1) (rotated (r + 1) xs))
+ring_first f first r capacity n k xs d c p h e q =
     let s = ring_start first capacity in
     let b = start_below first capacity p in
     let same : r ≡ s = ⊎_elim (λ i. omega arith) (λ i. absurd (omega arith)) h.1 in
@@ -93,4 +121,13 @@ ring_take f first r capacity n k xs d c p h e q =
     let all = rotated_length r xs in
     let m : k ≡ min n (suc (length (ring_rest r xs))) = omega arith in
     let t = front_first f n k (get_or xs r d) (ring_rest r xs) m q in
+    cc
+
+-- the last of a ring apart: it stands at the slot of the last position
+pub ring_last : {X Y : Type 0} (f : X → Y) (first r capacity n k : ℕ) (xs : List X) (d : X) → capacity ≡ length xs → Slot first (k - 1) capacity r → k ≡ min n (length xs) → 0 < k → map f (take n (rotated first xs)) ≡ map f (take (k - 1) (rotated first xs)) ++ f (get_or xs r d) ∷ []
+ring_last f first r capacity n k xs d c h e q =
+    let len = rotated_length first xs in
+    let m : k ≡ min n (length (rotated first xs)) = omega arith in
+    let g = rotated_get first (k - 1) r capacity xs d c (omega arith) h in
+    let t = front_last f n k (rotated first xs) d m q in
     cc

@@ -1,10 +1,9 @@
--- What waits in the two built lists. Every value of them has a meaning.
-use Rattle.std.specs.Prelude.{◌≡◌, ℕ, ◌+◌, ◌<◌, min, cond, ◌⊎◌, List, ◌++◌, map, length, take, drop, ℤ, nat_lt}
+-- What waits in a built list. Every value of it has a meaning.
+use Rattle.std.specs.Prelude.{◌≡◌, ℕ, ◌+◌, ◌<◌, min, cond, ◌⊎◌, List, ◌++◌, map, length, take, drop, ℤ, nat_eq, nat_lt}
 use Rattle.facts.specs.declared.fact.Fact.{Fact}
 use Rattle.facts.specs.Meanings.{Meaning, meaning}
 use Rattle.facts.specs.Reads.{cut}
-use Rattle.lists.specs.declared.last.LastFirst.{LastFirst}
-use Rattle.lists.specs.declared.first.FirstFirst.{FirstFirst}
+use Rattle.lists.specs.declared.ring.RingList.{RingList}
 
 -- what a fact in the memory means; its count is read as at most 3
 abbrev pub kept : {V : Type 0} → (V → ℤ) → Fact V → Meaning
@@ -26,14 +25,12 @@ abbrev pub Slot : ℕ → ℕ → ℕ → ℕ → Type 0
 Slot first k capacity r =
     (r < capacity) × ((r ≡ ring_start first capacity + k) ⊎ (r + capacity ≡ ring_start first capacity + k))
 
-abbrev pub last_waiting : {V : Type 0} → (V → ℤ) → LastFirst V → List Meaning
-last_waiting means l = map (kept means) (take l.len (used l.memory.now))
+-- where a list starts in its memory: at its front where the last fact is given, else at the index first
+abbrev pub start : {V : Type 0} {last : ℕ} → RingList V last → ℕ
+start {last} l = cond (nat_eq last 0) l.first 0
 
-abbrev pub last_capacity : {V : Type 0} → LastFirst V → ℕ
-last_capacity l = min 4096 (length l.memory.now)
+abbrev pub waiting : {V : Type 0} {last : ℕ} → (V → ℤ) → RingList V last → List Meaning
+waiting means l = map (kept means) (take l.len (rotated (start l) (used l.memory.now)))
 
-abbrev pub first_waiting : {V : Type 0} → (V → ℤ) → FirstFirst V → List Meaning
-first_waiting means l = map (kept means) (take l.len (rotated l.first (used l.memory.now)))
-
-abbrev pub first_capacity : {V : Type 0} → FirstFirst V → ℕ
-first_capacity l = min 4096 (length l.memory.now)
+abbrev pub capacity : {V : Type 0} {last : ℕ} → RingList V last → ℕ
+capacity l = min 4096 (length l.memory.now)

@@ -24,3 +24,8 @@ GivesLast means w (Some f) w' = w ≡ w' ++ meaning means f ∷ []
 abbrev pub GivesFirst : {V : Type 0} → (V → ℤ) → List Meaning → Option (Fact V) → List Meaning → Type 0
 GivesFirst means w None w' = w ≡ []
 GivesFirst means w (Some f) w' = w ≡ meaning means f ∷ w'
+
+-- a list gives the last fact, or the first
+abbrev pub GivesEnd : Bool → {V : Type 0} → (V → ℤ) → List Meaning → Option (Fact V) → List Meaning → Type 0
+GivesEnd true means w r w' = GivesLast means w r w'
+GivesEnd false means w r w' = GivesFirst means w r w'

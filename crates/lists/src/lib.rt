@@ -1,12 +1,10 @@
 #![tactic(auto)]
 
-pub mod first;
-pub mod last;
 pub mod list;
+pub mod ring;
 
-pub use first::FirstFirst;
-pub use last::LastFirst;
 pub use list::WaitingList;
+pub use ring::{FirstFirst, LastFirst, RingList};
 
 #[cfg(test)]
 mod tests;

@@ -1,6 +1,5 @@
-use crate::first::FirstFirst;
-use crate::last::LastFirst;
 use crate::list::WaitingList;
+use crate::ring::{FirstFirst, LastFirst};
 use facts::{Fact, Kind, Reading, read_fact};
 use std::process::Abort;
 
@@ -18,10 +17,7 @@ fn reading(count: u8, word: u32) -> Fact<Reading> {
 
 // The first argument of the fact that is taken.
 fn taken<V: Kind, L: WaitingList<V>>(list: &mut L) -> Option<i32> {
-    match list.take() {
-        Some(fact) => Some(read_fact(&fact).args.0),
-        None => None,
-    }
+    list.take().map(|fact| read_fact(&fact).args.0)
 }
 
 // Puts until the list refuses; a list of three then has three.
@@ -85,14 +81,16 @@ fn memory_past_the_most_is_left(rt: HostRuntime) {
     assert_eq!(rt; memory[4096].args.0.word, 9);
 }
 
+// A list without memory refuses, and gives nothing.
+fn holds_nothing<L: WaitingList<Reading>>(rt: &impl Abort, list: &mut L) {
+    assert!(rt; !list.put(&reading(1, 1)));
+    assert_eq!(rt; taken(list), None);
+}
+
 #[test]
 fn no_memory_holds_nothing(rt: HostRuntime) {
     let mut first: [Fact<Reading>; 0] = [];
     let mut last: [Fact<Reading>; 0] = [];
-    let mut list = FirstFirst::new(&mut first);
-    assert!(rt; !list.put(&reading(1, 1)));
-    assert_eq!(rt; taken(&mut list), None);
-    let mut list = LastFirst::new(&mut last);
-    assert!(rt; !list.put(&reading(1, 1)));
-    assert_eq!(rt; taken(&mut list), None);
+    holds_nothing(&rt, &mut FirstFirst::new(&mut first));
+    holds_nothing(&rt, &mut LastFirst::new(&mut last));
 }

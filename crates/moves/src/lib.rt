@@ -33,13 +33,9 @@ pub fn move_one<V: Kind, L: WaitingList<V>, S: Store<V>>(
     if store.room() == 0 {
         return Err(Refusal::NoRoom);
     }
-    let Some(fact) = list.take() else {
-        unreachable()
-    };
-    match store.put(&fact, number) {
-        Some(place) => Ok(place),
-        None => unreachable(),
-    }
+    // A fact waits and a place is empty, so neither is missing.
+    let fact = list.take().unwrap();
+    Ok(store.put(&fact, number).unwrap())
 }
 
 #[cfg(test)]

@@ -19,78 +19,53 @@ fn words<V: Kind>() -> PackedCell<V> {
 
 // The first argument of the fact at a place.
 fn argument<V: Kind, S: Store<V>>(store: &S, place: usize) -> Option<i32> {
-    match store.read(place) {
-        Some((_, fact)) => Some(read_fact(&fact).args.0),
-        None => None,
-    }
+    store.read(place).map(|(_, fact)| read_fact(&fact).args.0)
 }
 
 // Moves two of three facts into a store of two places, with every refusal on the way.
 // Answers the arguments at the places 0 and 1.
-fn moved<V: Kind, L: WaitingList<V>, S: Store<V>>(
+fn moved<V: Kind, L: WaitingList<V> + Drop, S: Store<V> + Drop>(
     rt: &impl Abort,
-    list: &mut L,
-    store: &mut S,
+    mut list: L,
+    mut store: S,
     facts: &[Fact<V>],
 ) -> Result<(i32, i32), Fail> {
-    assert_eq!(rt; move_one(list, store, 0), Err(Refusal::NoneWaits));
+    assert_eq!(rt; move_one(&mut list, &mut store, 0), Err(Refusal::NoneWaits));
     for fact in facts {
         assert!(rt; list.put(fact));
     }
-    assert_eq!(rt; move_one(list, store, 0), Err(Refusal::NumberZero));
-    let first = move_one(list, store, 1)?;
-    let second = move_one(list, store, 2)?;
+    assert_eq!(rt;
+        move_one(&mut list, &mut store, 0),
+        Err(Refusal::NumberZero)
+    );
+    let first = move_one(&mut list, &mut store, 1)?;
+    let second = move_one(&mut list, &mut store, 2)?;
     assert_ne!(rt; first, second);
-    assert_eq!(rt; move_one(list, store, 3), Err(Refusal::NoRoom));
-    assert_eq!(rt; move_one(list, store, 0), Err(Refusal::NumberZero));
+    assert_eq!(rt; move_one(&mut list, &mut store, 3), Err(Refusal::NoRoom));
+    assert_eq!(rt;
+        move_one(&mut list, &mut store, 0),
+        Err(Refusal::NumberZero)
+    );
     assert_eq!(rt; list.count(), 1);
-    let low = argument(store, 0).ok_or("held")?;
-    let high = argument(store, 1).ok_or("held")?;
+    let low = argument(&store, 0).ok_or("held")?;
+    let high = argument(&store, 1).ok_or("held")?;
     Ok((low, high))
 }
 
-fn last_flat<V: Kind>(
+// Moves from each list into each store: last-first into both, then first-first into both.
+fn moved_between_all<V: Kind>(
     rt: &impl Abort,
     facts: &[Fact<V>],
     memory: &mut [Fact<V>],
     cells: &mut [FlatCell<V>],
-) -> Result<(i32, i32), Fail> {
-    let mut list = LastFirst::new(memory);
-    let mut store = FlatStore::new(cells);
-    moved(rt, &mut list, &mut store, facts)
-}
-
-fn last_packed<V: Kind>(
-    rt: &impl Abort,
-    facts: &[Fact<V>],
-    memory: &mut [Fact<V>],
     words: &mut [PackedCell<V>],
-) -> Result<(i32, i32), Fail> {
-    let mut list = LastFirst::new(memory);
-    let mut store = PackedStore::new(words);
-    moved(rt, &mut list, &mut store, facts)
-}
-
-fn first_flat<V: Kind>(
-    rt: &impl Abort,
-    facts: &[Fact<V>],
-    memory: &mut [Fact<V>],
-    cells: &mut [FlatCell<V>],
-) -> Result<(i32, i32), Fail> {
-    let mut list = FirstFirst::new(memory);
-    let mut store = FlatStore::new(cells);
-    moved(rt, &mut list, &mut store, facts)
-}
-
-fn first_packed<V: Kind>(
-    rt: &impl Abort,
-    facts: &[Fact<V>],
-    memory: &mut [Fact<V>],
-    words: &mut [PackedCell<V>],
-) -> Result<(i32, i32), Fail> {
-    let mut list = FirstFirst::new(memory);
-    let mut store = PackedStore::new(words);
-    moved(rt, &mut list, &mut store, facts)
+) -> Result<[(i32, i32); 4], Fail> {
+    Ok([
+        moved(rt, LastFirst::new(memory), FlatStore::new(cells), facts)?,
+        moved(rt, LastFirst::new(memory), PackedStore::new(words), facts)?,
+        moved(rt, FirstFirst::new(memory), FlatStore::new(cells), facts)?,
+        moved(rt, FirstFirst::new(memory), PackedStore::new(words), facts)?,
+    ])
 }
 
 fn reading(word: u32) -> Fact<Reading> {
@@ -115,17 +90,8 @@ fn readings_move_between_all(rt: HostRuntime) -> Result<(), Fail> {
     }; 2];
     let mut words = [words(); 2];
     assert_eq!(rt;
-        last_flat(&rt, &facts, &mut memory, &mut cells)?,
-        (65_535, 84)
-    );
-    assert_eq!(rt;
-        last_packed(&rt, &facts, &mut memory, &mut words)?,
-        (84, 65_535)
-    );
-    assert_eq!(rt; first_flat(&rt, &facts, &mut memory, &mut cells)?, (0, 84));
-    assert_eq!(rt;
-        first_packed(&rt, &facts, &mut memory, &mut words)?,
-        (84, 0)
+        moved_between_all(&rt, &facts, &mut memory, &mut cells, &mut words)?,
+        [(65_535, 84), (84, 65_535), (0, 84), (84, 0)]
     );
     Ok(())
 }
@@ -153,20 +119,13 @@ fn counts_move_between_all(rt: HostRuntime) -> Result<(), Fail> {
     }; 2];
     let mut words = [words(); 2];
     assert_eq!(rt;
-        last_flat(&rt, &facts, &mut memory, &mut cells)?,
-        (134_217_727, -1)
-    );
-    assert_eq!(rt;
-        last_packed(&rt, &facts, &mut memory, &mut words)?,
-        (-1, 134_217_727)
-    );
-    assert_eq!(rt;
-        first_flat(&rt, &facts, &mut memory, &mut cells)?,
-        (-134_217_728, -1)
-    );
-    assert_eq!(rt;
-        first_packed(&rt, &facts, &mut memory, &mut words)?,
-        (-1, -134_217_728)
+        moved_between_all(&rt, &facts, &mut memory, &mut cells, &mut words)?,
+        [
+            (134_217_727, -1),
+            (-1, 134_217_727),
+            (-134_217_728, -1),
+            (-1, -134_217_728),
+        ]
     );
     Ok(())
 }
