@@ -1,33 +1,24 @@
-ghost use Rattle.std.specs.Prelude.{◌≡◌, ℕ, ◌≤◌, List, [], length, drop, Option};
-ghost use Rattle.facts.specs.declared.fact.Fact.{Fact};
+ghost use Rattle.std.specs.Prelude.{◌≡◌, ℕ, ◌≤◌, List, [], length};
 ghost use Rattle.facts.specs.Meanings.{Meaning, meaning};
 ghost use Rattle.lists.specs.Waiting.{Joins, Gives};
 
 use facts::{Fact, Kind};
 
-// A waiting list: facts in order, in a memory of their own, with a fixed capacity.
+// A waiting list: facts in order, with a fixed capacity.
 pub trait WaitingList<V: Kind> {
     ghost waiting: { Self → List Meaning };
 
     ghost capacity: { Self → ℕ };
 
-    ghost memory: { Self → List (Fact V) };
-
-    // Which fact is next: of what waits, the answer of a take, and what then waits.
-    ghost in_order: { List Meaning → Option (Fact V) → List Meaning → Type 0 };
-
     // Puts the fact at the end, and says whether it could.
     fn put(&mut self, fact: &Fact<V>) -> bool
         ensures joins { Joins (waiting self.old) (capacity self.old) (meaning V.Kind.meaning fact.now) result (waiting self.new) }
-        ensures fixed { capacity self.new ≡ capacity self.old }
-        ensures beyond { drop 4096 (memory self.new) ≡ drop 4096 (memory self.old) };
+        ensures fixed { capacity self.new ≡ capacity self.old };
 
     // Takes one fact out, if any waits.
     fn take(&mut self) -> Option<Fact<V>>
         ensures gives { Gives V.Kind.meaning (waiting self.old) result (waiting self.new) }
-        ensures fixed { capacity self.new ≡ capacity self.old }
-        ensures order { in_order (waiting self.old) result (waiting self.new) }
-        ensures same { memory self.new ≡ memory self.old };
+        ensures fixed { capacity self.new ≡ capacity self.old };
 
     // How many facts wait.
     fn count(&self) -> usize

@@ -1,9 +1,10 @@
-ghost use Rattle.std.specs.Prelude.{◌≡◌, ◌<◌, min, ◌⊎◌, [], length};
+ghost use Rattle.std.specs.Prelude.{◌≡◌, ◌<◌, min, ◌⊎◌, [], length, drop};
+ghost use Rattle.facts.specs.Meanings.{meaning};
 ghost use Rattle.lists.specs.Built.{waiting, capacity, start, Slot};
-ghost use Rattle.lists.specs.Waiting.{GivesEnd};
+ghost use Rattle.lists.specs.Waiting.{Joins, Gives, GivesEnd};
 
 use crate::list::{MOST_WAITING, WaitingList};
-use facts::{Fact, Kind, MOST_ARGS, cut_count};
+use facts::{Fact, Kind, MOST_ARGS};
 
 // A list on the caller's memory. A fact joins at the end; one is taken from the end where LAST holds, else
 // from the start. Where LAST holds the facts stand at the front of the memory; else the memory is a ring:
@@ -61,11 +62,11 @@ impl<'a, V: Kind, const LAST: bool> WaitingList<V> for RingList<'a, V, LAST> {
 
     ghost capacity = { capacity };
 
-    ghost memory = { λ l. l.memory.now };
-
-    ghost in_order = { GivesEnd LAST V.Kind.meaning };
-
-    fn put(&mut self, fact: &Fact<V>) -> bool {
+    fn put(&mut self, fact: &Fact<V>) -> bool
+        ensures joins { Joins (waiting V.Kind.meaning self.old) (capacity self.old) (meaning V.Kind.meaning fact.now) result (waiting V.Kind.meaning self.new) }
+        ensures fixed { capacity self.new ≡ capacity self.old }
+        ensures beyond { drop 4096 self.new.memory.now ≡ drop 4096 self.old.memory.now }
+    {
         let count = self.count();
         if count >= self.capacity() || fact.count > MOST_ARGS {
             return false;
@@ -76,7 +77,12 @@ impl<'a, V: Kind, const LAST: bool> WaitingList<V> for RingList<'a, V, LAST> {
         true
     }
 
-    fn take(&mut self) -> Option<Fact<V>> {
+    fn take(&mut self) -> Option<Fact<V>>
+        ensures gives { Gives V.Kind.meaning (waiting V.Kind.meaning self.old) result (waiting V.Kind.meaning self.new) }
+        ensures fixed { capacity self.new ≡ capacity self.old }
+        ensures order { GivesEnd LAST V.Kind.meaning (waiting V.Kind.meaning self.old) result (waiting V.Kind.meaning self.new) }
+        ensures same { self.new.memory.now ≡ self.old.memory.now }
+    {
         let count = self.count();
         if count == 0 {
             return None;
@@ -85,7 +91,7 @@ impl<'a, V: Kind, const LAST: bool> WaitingList<V> for RingList<'a, V, LAST> {
         let at = self.slot(position);
         self.first = if LAST { self.first } else { at + 1 };
         self.len = count - 1;
-        Some(cut_count(&self.memory[at]))
+        Some(self.memory[at].cut())
     }
 
     fn count(&self) -> usize {

@@ -1,6 +1,6 @@
 use crate::list::WaitingList;
 use crate::ring::{FirstFirst, LastFirst};
-use facts::{Fact, Kind, Reading, read_fact};
+use facts::{Fact, Kind, Reading};
 use std::process::Abort;
 
 fn reading(count: u8, word: u32) -> Fact<Reading> {
@@ -17,7 +17,7 @@ fn reading(count: u8, word: u32) -> Fact<Reading> {
 
 // The first argument of the fact that is taken.
 fn taken<V: Kind, L: WaitingList<V>>(list: &mut L) -> Option<i32> {
-    list.take().map(|fact| read_fact(&fact).args.0)
+    list.take().map(|fact| fact.read().args.0)
 }
 
 // Puts until the list refuses; a list of three then has three.

@@ -1,5 +1,5 @@
 use crate::{Refusal, move_one};
-use facts::{Fact, Kind, Reading, WholeCount, read_fact, write_fact};
+use facts::{Fact, Kind, Reading, WholeCount};
 use lists::{FirstFirst, LastFirst, WaitingList};
 use std::marker::PhantomData;
 use std::process::Abort;
@@ -19,7 +19,7 @@ fn words<V: Kind>() -> PackedCell<V> {
 
 // The first argument of the fact at a place.
 fn argument<V: Kind, S: Store<V>>(store: &S, place: usize) -> Option<i32> {
-    store.read(place).map(|(_, fact)| read_fact(&fact).args.0)
+    store.read(place).map(|(_, fact)| fact.read().args.0)
 }
 
 // Moves two of three facts into a store of two places, with every refusal on the way.
@@ -97,7 +97,11 @@ fn readings_move_between_all(rt: HostRuntime) -> Result<(), Fail> {
 }
 
 fn count(n: i32) -> Option<Fact<WholeCount>> {
-    write_fact(1, 1, (n, 0, 0))
+    Fact::make(Fact {
+        name: 1,
+        count: 1,
+        args: (n, 0, 0),
+    })
 }
 
 #[test]

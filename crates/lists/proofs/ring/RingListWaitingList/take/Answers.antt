@@ -32,6 +32,6 @@ returns g c =
           elim c.if-this-ne0-2.branch [ then-this-ne0-2 w ↦ omega arith | else-this-ne0-2 w ↦ omega arith ] in
           rw e h,
     ) in
-    let e = ring_gives means (start s) at s.len n m k c.index-self-at.result c.cut_count.result (omega arith) c.cut_count.ensures g.row.LAST c.if-this-ne0.position start' c.slot-at.ensures last first in
-    let l : c.cut_count.result.count ≤ 3 = rw c.cut_count.ensures (omega arith) in
-    record { gives = gives_end (not (nat_eq g.row.LAST 0)) means (waiting means s) _ c.cut_count.result l e; fixed = refl; order = e; same = refl }
+    let e = ring_gives means (start s) at s.len n m k c.index-self-at.result c.cut.result (omega arith) c.cut.ensures g.row.LAST c.if-this-ne0.position start' c.slot-at.ensures last first in
+    let l : c.cut.result.count ≤ 3 = rw c.cut.ensures (omega arith) in
+    record { gives = gives_end (not (nat_eq g.row.LAST 0)) means (waiting means s) _ c.cut.result l e; fixed = refl; order = e; same = refl }
