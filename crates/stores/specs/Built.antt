@@ -1,13 +1,10 @@
--- What the places of the two built stores hold.
+-- What the places of the built stores hold.
 use Rattle.std.specs.Prelude.{List, ℤ}
 use Rattle.facts.specs.Meanings.{Meaning}
 use Rattle.facts.specs.Places.{Place}
-use Rattle.stores.specs.Cells.{flat_place, packed_place, places_of}
-use Rattle.stores.specs.declared.flat.FlatStore.{FlatStore}
-use Rattle.stores.specs.declared.packed.PackedStore.{PackedStore}
+use Rattle.stores.specs.Cells.{places_of}
+use Rattle.stores.specs.declared.cells.CellStore.{CellStore}
 
-abbrev pub flat_cells : {V : Type 0} → (V → ℤ) → FlatStore V → List (Place Meaning)
-flat_cells means s = places_of (flat_place means) s.cells.now
-
-abbrev pub packed_cells : {V : Type 0} → ℤ → ℤ → PackedStore V → List (Place Meaning)
-packed_cells low high s = places_of (packed_place low high) s.cells.now
+-- the places of a store on lent cells, each of which means a place
+abbrev pub cells_of : {C P : Type 0} → (C → Place Meaning) → CellStore C P → List (Place Meaning)
+cells_of place s = places_of place s.cells.now

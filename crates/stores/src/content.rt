@@ -1,7 +1,7 @@
 ghost use Rattle.std.specs.Prelude.{◌≡◌, ◌<◌, ◌≤◌, pos, ◌+ℤ◌};
 ghost use Rattle.facts.specs.Meanings.{Meaning, meaning};
 ghost use Rattle.facts.specs.Places.{Place, empty, held};
-ghost use Rattle.stores.specs.Cells.{flat_place, packed_place, word_value, Numbered, Holds};
+ghost use Rattle.stores.specs.Cells.{flat_place, packed_place, is_empty, word_value, Numbered, Holds};
 
 use crate::cell::{FlatCell, PackedCell};
 use facts::{Fact, Kind, MOST_ARGS, cut_count};
@@ -9,28 +9,39 @@ use std::marker::PhantomData;
 
 const NAME_UNIT: u32 = 256;
 
-// A cell means a place.
-pub trait Cell<V: Kind>: Copy {
+// A cell means a place, which is empty or holds a fact of the cell's kind.
+pub trait Cell: Copy {
+    type Value: Kind;
+
     ghost place: { Self → Place Meaning };
 
     // The number at the place, 0 where it is empty.
     fn number(&self) -> u32
         ensures { Numbered (place self.now) result };
 
+    // Whether the place is empty.
+    fn is_empty(&self) -> bool
+        ensures { result ≡ is_empty (place self.now) }
+    {
+        self.number() == 0
+    }
+
     // What the place holds.
-    fn content(&self) -> Option<(u32, Fact<V>)>
-        ensures { Holds V.Kind.meaning (place self.now) result };
+    fn content(&self) -> Option<(u32, Fact<Self::Value>)>
+        ensures { Holds Self.Value.meaning (place self.now) result };
 
     // The cell that holds the fact under the number.
-    fn holding(number: u32, fact: &Fact<V>) -> Self
-        ensures { 0 < number → fact.now.count ≤ 3 → place result ≡ held number (meaning V.Kind.meaning fact.now) };
+    fn holding(number: u32, fact: &Fact<Self::Value>) -> Self
+        ensures { 0 < number → fact.now.count ≤ 3 → place result ≡ held number (meaning Self.Value.meaning fact.now) };
 
     // The cell emptied.
     fn emptied(&self) -> Self
         ensures { place result ≡ empty };
 }
 
-impl<V: Kind> Cell<V> for FlatCell<V> {
+impl<V: Kind> Cell for FlatCell<V> {
+    type Value = V;
+
     ghost place = { flat_place V.Kind.meaning };
 
     fn number(&self) -> u32 {
@@ -82,7 +93,9 @@ fn value_of<V: Kind>(word: u32) -> V
     }
 }
 
-impl<V: Kind> Cell<V> for PackedCell<V> {
+impl<V: Kind> Cell for PackedCell<V> {
+    type Value = V;
+
     ghost place = { packed_place V.Kind.low V.Kind.high };
 
     fn number(&self) -> u32 {
