@@ -1,13 +1,11 @@
-ghost use Rattle.std.specs.Prelude.{◌≡◌, ◌<◌, ◌≤◌, pos, ◌+ℤ◌};
+ghost use Rattle.std.specs.Prelude.{◌≡◌, ◌/◌, ◌%◌, ◌<◌, ◌≤◌, pos, ◌+ℤ◌};
 ghost use Rattle.facts.specs.Meanings.{Meaning, meaning};
 ghost use Rattle.facts.specs.Places.{Place, empty, held};
 ghost use Rattle.stores.specs.Cells.{flat_place, packed_place, is_empty, word_value, Numbered, Holds};
 
 use crate::cell::{FlatCell, PackedCell};
-use facts::{Fact, Kind, MOST_ARGS, cut_count};
+use facts::{Fact, Kind, cut_count};
 use std::marker::PhantomData;
-
-const NAME_UNIT: u32 = 256;
 
 // A cell means a place, which is empty or holds a fact of the cell's kind.
 pub trait Cell: Copy {
@@ -70,13 +68,21 @@ impl<V: Kind> Cell for FlatCell<V> {
     }
 }
 
+// The label of a name and a count.
+fn label_of(name: u8, count: u8) -> u32
+    ensures name { result / 256 % 256 ≡ name }
+    ensures count { result % 256 ≡ count }
+{
+    u32::from_le_bytes([count, name, 0, 0])
+}
+
 // The word of the argument at an index, counted from the low end; 0 where the argument is spare.
 fn word_of<V: Kind>(count: u8, at: u8, value: V) -> u32
     ensures kept { at < count → V.Kind.low +ℤ pos result ≡ V.Kind.meaning value }
     ensures spare { count ≤ at → result ≡ 0 }
 {
     if at < count {
-        (value.read() - V::low()) as u32
+        value.read().abs_diff(V::low())
     } else {
         0
     }
@@ -86,11 +92,11 @@ fn word_of<V: Kind>(count: u8, at: u8, value: V) -> u32
 fn value_of<V: Kind>(word: u32) -> V
     ensures { V.Kind.meaning result ≡ word_value V.Kind.low V.Kind.high word }
 {
-    let most = (V::high() - V::low()) as u32;
-    match V::make(V::low() + word.min(most) as i32) {
-        Some(value) => value,
-        None => unreachable(),
-    }
+    let n = V::low().saturating_add_unsigned(word).min(V::high());
+    let Some(value) = V::make(n) else {
+        unreachable()
+    };
+    value
 }
 
 impl<V: Kind> Cell for PackedCell<V> {
@@ -106,27 +112,22 @@ impl<V: Kind> Cell for PackedCell<V> {
         if self.number == 0 {
             return None;
         }
-        let name = (self.label / NAME_UNIT % NAME_UNIT) as u8;
-        let count = ((self.label % NAME_UNIT) as u8).min(MOST_ARGS);
+        let [count, name, _, _] = self.label.to_le_bytes();
         let args = (
             value_of(self.first),
             value_of(self.second),
             value_of(self.third),
         );
-        Some((self.number, Fact { name, count, args }))
+        Some((self.number, cut_count(&Fact { name, count, args })))
     }
 
     fn holding(number: u32, fact: &Fact<V>) -> PackedCell<V> {
-        let label = fact.name as u32 * NAME_UNIT + fact.count as u32;
-        let first = word_of(fact.count, 0, fact.args.0);
-        let second = word_of(fact.count, 1, fact.args.1);
-        let third = word_of(fact.count, 2, fact.args.2);
         PackedCell {
             number,
-            label,
-            first,
-            second,
-            third,
+            label: label_of(fact.name, fact.count),
+            first: word_of(fact.count, 0, fact.args.0),
+            second: word_of(fact.count, 1, fact.args.1),
+            third: word_of(fact.count, 2, fact.args.2),
             kind: PhantomData,
         }
     }
