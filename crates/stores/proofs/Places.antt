@@ -1,5 +1,5 @@
 -- What stands at a place, from the cells of a memory.
-use Rattle.std.proofs.Common.{◌≡◌, ℕ, zero, suc, ◌+◌, ◌-◌, ◌<◌, ◌≤◌, min, Bool, true, false, ◌⊎◌, List, [], ◌∷◌, ◌++◌, map, length, get_or, take, drop, set, replicate, position, ℤ, Some, None, Option, is_some, IfSome, MatchOption, Bor, nat_lt, sym, refl, ap, ◌∙◌, subst, inl, inr, ⊎_elim, arith, length-take, length-drop, length-append, zero-add}
+use Rattle.std.proofs.Common.{◌≡◌, ℕ, zero, suc, ◌+◌, ◌-◌, ◌<◌, ◌≤◌, min, true, false, List, [], ◌∷◌, ◌++◌, map, length, get_or, take, drop, set, ℤ, Some, None, Option, is_some, IfSome, MatchOption, Bor, nat_lt, sym, refl, ap, ◌∙◌, subst, inl, inr, ⊎_elim, arith, length-take, length-drop, length-append}
 use lib.ListN.{length-map}
 use lib.Seq.{take-set-lt}
 use borrow.Author.Tests.{ltb-true, ltb-false}
@@ -149,11 +149,10 @@ module _ {C F : Type 0} (place : C → Place F) where
       ((d : C) (i k : ℕ) → r ≡ Some i → i < k → k < length cells → is_empty (place (get_or cells k d)) ≡ false) →
       LastEmpty (map place cells) r
   last_from cells None none inside here after = filled_from cells 0 (length (map place cells)) (λ d k a b i. none d k refl i)
-  last_from cells (Some i) none inside here after =
-      (
-        empty_at cells i (inside i refl) (λ d. here d i refl),
-        filled_from cells (suc i) (length (map place cells)) (λ d k a b j. after d i k refl (omega arith) j),
-      )
+  last_from cells (Some i) none inside here after = (
+    empty_at cells i (inside i refl) (λ d. here d i refl),
+    filled_from cells (suc i) (length (map place cells)) (λ d k a b j. after d i k refl (omega arith) j),
+  )
 
 -- the first cells written anew leave those after 4,096
 pub beyond_anew : {C : Type 0} (memory cs : List C) (n : ℕ) → n ≡ min 4096 (length memory) → length cs ≡ n → Beyond memory (cs ++ drop n memory)
@@ -217,8 +216,10 @@ module _ {C F : Type 0} (place : C → Place F) (cells front back : List C) (mar
       rw (parted a b) (
         nth_back (map place front) (map place back) (length front + k) k empty (omega arith) h.0,
         (
-          inl (omega arith,
-          λ j x y z. h.1 (j - m) (omega arith) (omega arith) (nth_in_back (map place front) (map place back) j (j - m) empty (omega arith) z)),
+          inl (
+            omega arith,
+            λ j x y z. h.1 (j - m) (omega arith) (omega arith) (nth_in_back (map place front) (map place back) j (j - m) empty (omega arith) z),
+          ),
           refl,
         ),
       )
@@ -236,9 +237,11 @@ module _ {C F : Type 0} (place : C → Place F) (cells front back : List C) (mar
       rw (parted a b) (
         nth_front (map place front) (map place back) k empty h.0,
         (
-          inr (omega arith,
-          (λ j x y z. f (j - m) (omega arith) (omega arith) (nth_in_back (map place front) (map place back) j (j - m) empty (omega arith) z)),
-          (λ j x y z. h.1 j x y (nth_in_front (map place front) (map place back) j empty (omega arith) z))),
+          inr (
+            omega arith,
+            (λ j x y z. f (j - m) (omega arith) (omega arith) (nth_in_back (map place front) (map place back) j (j - m) empty (omega arith) z)),
+            (λ j x y z. h.1 j x y (nth_in_front (map place front) (map place back) j empty (omega arith) z)),
+          ),
           refl,
         ),
       )

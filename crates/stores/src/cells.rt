@@ -24,7 +24,7 @@ impl<'a, C: Cell, P: Pick> CellStore<'a, C, P> {
     // An empty store of as many places as there are cells, up to 4,096.
     pub fn new(cells: &'a mut [C]) -> CellStore<'a, C, P>
         ensures clears { cells_of C.Cell.place result ≡ replicate (min 4096 (length cells.old)) empty }
-        ensures starts { result.picker ≡ P.Pick.first }
+        ensures starts { result.picker ≡ P.Pick.start }
         ensures beyond { Beyond cells.old result.cells.now }
     {
         let used = MOST_PLACES.min(cells.len());
@@ -61,6 +61,7 @@ impl<'a, C: Cell, P: Pick> Store<C::Value> for CellStore<'a, C, P> {
     }
 
     fn room(&self) -> usize {
+        // The room of a store is counted by a loop over its cells.
         let mut count = 0;
         for cell in self.used() {
             if cell.number() == 0 {
@@ -100,8 +101,7 @@ impl<'a, C: Cell, P: Pick> Store<C::Value> for CellStore<'a, C, P> {
         if held == 0 || held != number {
             return false;
         }
-        let emptied = cell.emptied();
-        self.cells[place] = emptied;
+        self.cells[place] = cell.emptied();
         true
     }
 }

@@ -61,10 +61,7 @@ impl<V: Kind> Cell for FlatCell<V> {
     }
 
     fn emptied(&self) -> FlatCell<V> {
-        FlatCell {
-            number: 0,
-            fact: self.fact,
-        }
+        FlatCell { number: 0, ..*self }
     }
 }
 

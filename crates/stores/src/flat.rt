@@ -17,7 +17,7 @@ pub struct Mark {
 }
 
 impl Pick for Mark {
-    ghost first = { record { place = 0 } };
+    ghost start = { record { place = 0 } };
 
     ghost picks = { λ mark s r next. Marked s mark.place r next.place };
 

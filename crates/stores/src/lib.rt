@@ -15,4 +15,6 @@ pub use packed::PackedStore;
 pub use store::Store;
 
 #[cfg(test)]
+mod promises;
+#[cfg(test)]
 mod tests;

@@ -15,7 +15,7 @@ pub type PackedStore<'a, V> = CellStore<'a, PackedCell<V>, Top>;
 pub struct Top;
 
 impl Pick for Top {
-    ghost first = { record {} };
+    ghost start = { record {} };
 
     ghost picks = { λ _ s r _. Highest s r };
 
@@ -26,7 +26,6 @@ impl Pick for Top {
     }
 
     fn pick<C: Cell>(self, cells: &[C]) -> Option<(usize, Top)> {
-        let place = last_empty(cells)?;
-        Some((place, Top))
+        last_empty(cells).map(|place| (place, Top))
     }
 }

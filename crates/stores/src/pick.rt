@@ -7,14 +7,14 @@ use crate::content::Cell;
 
 // How a store picks the place that it fills next.
 pub trait Pick: Copy {
-    ghost first: { Self };
+    ghost start: { Self };
 
-    // What the place picked is, and the picker after it.
+    // Which place is picked, and the picker after it.
     ghost picks: { Self → List (Place Meaning) → Option ℕ → Self → Type 0 };
 
     // The picker of a store where nothing was put.
     fn start() -> Self
-        ensures { result ≡ first };
+        ensures { result ≡ start };
 
     // An empty place, and the picker after it; none where no place is empty.
     fn pick<C: Cell>(self, cells: &[C]) -> Option<(usize, Self)>

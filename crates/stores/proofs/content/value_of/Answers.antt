@@ -1,5 +1,5 @@
 use Rattle.std.proofs.Common.{◌≡◌, arith}
-use Rattle.std.proofs.lemmas.Int.{ints, clamps, to_z-of_z}
+use Rattle.std.proofs.lemmas.Int.{ints, clamps}
 use Rattle.stores.specs.Cells.{word_value}
 use Rattle.stores.proofs.Words.{word_made}
 use Rattle.stores.proofs.content.value_of.Goals as goal
@@ -10,7 +10,7 @@ unreachable-requires g c =
     let l = g.met.V.Kind.least in
     let m = g.met.V.Kind.most in
     let h : c.min-n.result ≡ word_value g.V.Kind.low g.V.Kind.high c.args.word =
-        word_made g.V.Kind.low g.V.Kind.high _ _ _ _ _ e l m c.low.ensures c.high.ensures c.saturating_add_unsigned.ensures c.min-n.ensures.value in
+    word_made g.V.Kind.low g.V.Kind.high _ _ _ _ _ e l m c.low.ensures c.high.ensures c.saturating_add_unsigned.ensures c.min-n.ensures.value in
     c.in_default.ensures (omega (arith, ints, clamps), omega (arith, ints, clamps))
 
 pub returns : goal.returns
@@ -19,5 +19,5 @@ returns g c =
     let l = g.met.V.Kind.least in
     let m = g.met.V.Kind.most in
     let h : c.min-n.result ≡ word_value g.V.Kind.low g.V.Kind.high c.args.word =
-        word_made g.V.Kind.low g.V.Kind.high _ _ _ _ _ e l m c.low.ensures c.high.ensures c.saturating_add_unsigned.ensures c.min-n.ensures.value in
+    word_made g.V.Kind.low g.V.Kind.high _ _ _ _ _ e l m c.low.ensures c.high.ensures c.saturating_add_unsigned.ensures c.min-n.ensures.value in
     omega (arith, ints, clamps, c.in-Some.ensures.1)

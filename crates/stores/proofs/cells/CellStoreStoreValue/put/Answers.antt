@@ -1,4 +1,4 @@
-use Rattle.std.proofs.Common.{◌≡◌, ◌<◌, set, length, refl, ap, ◌∙◌, inl, arith, rules}
+use Rattle.std.proofs.Common.{◌<◌, set, refl, ap, ◌∙◌, inl, arith, rules}
 use Rattle.std.proofs.lemmas.List.{drop-set-lt}
 use Rattle.facts.specs.Places.{empty}
 use Rattle.stores.specs.Built.{cells_of}
@@ -30,7 +30,7 @@ returns-clause-puts g c =
       c.if-fact-gt-MOST_ARGS.false,
       found,
       places_set f memory k c.holding.result (places_in f memory k empty found).1
-      ∙ ap (set (places_of f memory) k) (c.holding.ensures n c.if-fact-gt-MOST_ARGS.false),
+          ∙ ap (set (places_of f memory) k) (c.holding.ensures n c.if-fact-gt-MOST_ARGS.false),
     )
 
 pub returns-clause-beyond : goal.returns-clause-beyond

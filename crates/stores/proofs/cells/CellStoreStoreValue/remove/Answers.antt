@@ -15,7 +15,7 @@ pub returns-then-held-eq0-clause-removes : goal.returns-then-held-eq0-clause-rem
 returns-then-held-eq0-clause-removes g c =
     let s = cells_of g.C.Cell.place c.args.self.now in (
       nth_other s c.args.place (g.C.Cell.place c.in-Some.cell.now) c.number-held.result c.args.number c.in-Some.ensures c.number-held.ensures
-      (⊎_elim (λ z l e. omega arith) (λ z l e. z.1 e) c.then-held-eq0.either),
+          (⊎_elim (λ z l e. omega arith) (λ z l e. z.1 e) c.then-held-eq0.either),
       refl,
     )
 
@@ -34,12 +34,15 @@ returns-clause-removes g c =
     let k = c.args.place in
     let n = c.in-Some.ensures in
     let l : 0 < c.args.number = omega arith in
-    let h = nth_held s k (f c.in-Some.cell.now) c.args.number n (rw c.if-held-number.false at c.number-held.ensures) l in
-    (h.0, l, h.1,
-    places_set f memory k c.emptied-emptied.result (places_in f memory k (f c.in-Some.cell.now) n).1 ∙ ap (set s k) c.emptied-emptied.ensures)
+    let h = nth_held s k (f c.in-Some.cell.now) c.args.number n (rw c.if-held-number.false at c.number-held.ensures) l in (
+      h.0,
+      l,
+      h.1,
+      places_set f memory k c.emptied.result (places_in f memory k (f c.in-Some.cell.now) n).1 ∙ ap (set s k) c.emptied.ensures,
+    )
 
 pub returns-clause-beyond : goal.returns-clause-beyond
 returns-clause-beyond g c =
     let f = g.C.Cell.place in
     let memory = c.args.self.now.cells.now in
-    drop-set-lt 4096 memory c.args.place c.emptied-emptied.result (places_in f memory c.args.place (f c.in-Some.cell.now) c.in-Some.ensures).1
+    drop-set-lt 4096 memory c.args.place c.emptied.result (places_in f memory c.args.place (f c.in-Some.cell.now) c.in-Some.ensures).1

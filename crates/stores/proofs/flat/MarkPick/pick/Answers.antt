@@ -14,7 +14,7 @@ overflow_add-place g c =
     search rules
 
 pub returns-in_err-place-in-None : goal.returns-in_err-place-in-None
-returns-in_err-place-in-None g c = 
+returns-in_err-place-in-None g c =
     let s = c.split_at.ensures in
     rw c.from_residual.ensures
     (round_none g.C.Cell.place c.args.cells.now c.split_at.result.0.now c.split_at.result.1.now c.args.self.place c.min.result s.front s.back
