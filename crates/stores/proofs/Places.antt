@@ -92,9 +92,8 @@ module _ {C F : Type 0} (place : C → Place F) where
   found_at memory cs k (Some x) e t i = used_nth memory cs k x.now e (ltb-true _ _ (sym t)) i
 
   -- a place is a cell of the memory, among the first 4,096
-  pub places_in : (memory : List C) (k : ℕ) (p : Place F) → Nth (places_of place memory) k p → (k < length memory) × (k < 4096)
-  places_in memory k p n =
-      let h = nth_within (places_of place memory) k p n in
+  pub places_in : (memory : List C) (k : ℕ) → k < length (places_of place memory) → (k < length memory) × (k < 4096)
+  places_in memory k h =
       let l = used_length memory (take 4096 memory) refl in
       let t = length-take 4096 memory in
       (omega arith, omega arith)

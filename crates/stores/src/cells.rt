@@ -1,4 +1,4 @@
-ghost use Rattle.std.specs.Prelude.{◌≡◌, ◌≤◌, min, length, take, replicate, MatchOption};
+ghost use Rattle.std.specs.Prelude.{◌≡◌, ◌<◌, ◌≤◌, min, length, take, replicate, MatchOption, slice_set};
 ghost use Rattle.facts.specs.Lists.{Nth};
 ghost use Rattle.facts.specs.Meanings.{meaning};
 ghost use Rattle.facts.specs.Places.{empty};
@@ -51,6 +51,16 @@ impl<'a, C: Cell, P: Pick> CellStore<'a, C, P> {
     {
         self.used().get(place)
     }
+
+    // Writes the cell at a place.
+    fn write(&mut self, place: usize, cell: C)
+        requires { place < length (cells_of C.Cell.place self.old) }
+        ensures writes { cells_of C.Cell.place self.new ≡ slice_set (cells_of C.Cell.place self.old) place (C.Cell.place cell) }
+        ensures same_picker { self.new.picker ≡ self.old.picker }
+        ensures beyond { Beyond self.old.cells.now self.new.cells.now }
+    {
+        self.cells[place] = cell;
+    }
 }
 
 impl<'a, C: Cell, P: Pick> Store<C::Value> for CellStore<'a, C, P> {
@@ -84,7 +94,7 @@ impl<'a, C: Cell, P: Pick> Store<C::Value> for CellStore<'a, C, P> {
             return None;
         }
         let (place, picker) = self.picker.pick(self.used())?;
-        self.cells[place] = C::holding(number, fact);
+        self.write(place, C::holding(number, fact));
         self.picker = picker;
         Some(place)
     }
@@ -101,7 +111,8 @@ impl<'a, C: Cell, P: Pick> Store<C::Value> for CellStore<'a, C, P> {
         if held == 0 || held != number {
             return false;
         }
-        self.cells[place] = cell.emptied();
+        let emptied = cell.emptied();
+        self.write(place, emptied);
         true
     }
 }
