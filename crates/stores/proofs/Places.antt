@@ -14,12 +14,12 @@ use Rattle.stores.specs.Cells.{places_of, is_empty, Beyond, Numbered, Holds}
 use Rattle.stores.specs.Stores.{empties, Filled, FirstEmpty, LastEmpty, Marked, Reads}
 
 -- one thing stands at an index
-pub nth_one : {X : Type 0} (xs : List X) (k : ℕ) (x y : X) → Nth xs k x → Nth xs k y → x ≡ y
+nth_one : {X : Type 0} (xs : List X) (k : ℕ) (x y : X) → Nth xs k x → Nth xs k y → x ≡ y
 nth_one [] k x y a b = absurd a
 nth_one (z ∷ xs) zero x y a b = sym a ∙ b
 nth_one (z ∷ xs) (suc k) x y a b = nth_one xs k x y a b
 
-pub nth_map : {X Y : Type 0} (f : X → Y) (xs : List X) (k : ℕ) (x : X) → k < length xs → x ≡ get_or xs k x → Nth (map f xs) k (f x)
+nth_map : {X Y : Type 0} (f : X → Y) (xs : List X) (k : ℕ) (x : X) → k < length xs → x ≡ get_or xs k x → Nth (map f xs) k (f x)
 nth_map f [] k x h e = absurd (omega arith)
 nth_map f (y ∷ xs) zero x h e = ap f (sym e)
 nth_map f (y ∷ xs) (suc k) x h e = nth_map f xs k x (omega arith) e
@@ -46,17 +46,17 @@ nth_in_back (z ∷ xs) ys zero j x e a = absurd (omega arith)
 nth_in_back (z ∷ xs) ys (suc k) j x e a = nth_in_back xs ys k j x (omega arith) a
 
 -- an empty place holds nothing
-pub empty_held : {F : Type 0} (p : Place F) (n : ℕ) (f : F) → p ≡ empty → p ≡ held n f → ⊥
-empty_held p n f a b = let z : ◌≡◌ {A = ℕ} 0 1 = cc in omega arith
+empty_held : {F : Type 0} (p : Place F) (n : ℕ) (f : F) → p ≡ empty → p ≡ held n f → ⊥
+empty_held p n f a b = cc
 
 -- a place is asked whether it is empty
-pub empty_true : {F : Type 0} (p : Place F) → is_empty p ≡ true → p ≡ empty
+empty_true : {F : Type 0} (p : Place F) → is_empty p ≡ true → p ≡ empty
 empty_true empty e = refl
 empty_true (held n f) e = cc
 
-pub empty_false : {F : Type 0} (p : Place F) → is_empty p ≡ false → p ≡ empty → ⊥
+empty_false : {F : Type 0} (p : Place F) → is_empty p ≡ false → p ≡ empty → ⊥
 empty_false empty e h = cc
-empty_false (held n f) e h = empty_held (held n f) n f h refl
+empty_false (held n f) e h = cc
 
 -- a number 0 is read exactly at an empty place
 pub numbered_empty : {F : Type 0} (p : Place F) (r : ℕ) → Numbered p r → r ≡ 0 → p ≡ empty
@@ -65,23 +65,23 @@ numbered_empty (held n f) r h e = absurd (omega (arith, h.0, h.1))
 
 pub numbered_full : {F : Type 0} (p : Place F) (r : ℕ) → Numbered p r → (r ≡ 0 → ⊥) → p ≡ empty → ⊥
 numbered_full empty r h n e = n h
-numbered_full (held k f) r h n e = empty_held (held k f) k f e refl
+numbered_full (held k f) r h n e = cc
 
 -- the number read is the number held
-pub numbered_same : {F : Type 0} (p : Place F) (r n : ℕ) (f : F) → Numbered p r → p ≡ held n f → (0 < n) × (r ≡ n)
-numbered_same empty r n f h e = absurd (empty_held empty n f refl e)
+numbered_same : {F : Type 0} (p : Place F) (r n : ℕ) (f : F) → Numbered p r → p ≡ held n f → (0 < n) × (r ≡ n)
+numbered_same empty r n f h e = cc
 numbered_same (held k g) r n f h e = let s : k ≡ n = cc in (omega (arith, h.0), omega (arith, h.1))
 
-pub numbered_held : {F : Type 0} (p : Place F) (r : ℕ) → Numbered p r → 0 < r → (f : F) × (p ≡ held r f)
+numbered_held : {F : Type 0} (p : Place F) (r : ℕ) → Numbered p r → 0 < r → (f : F) × (p ≡ held r f)
 numbered_held empty r h l = absurd (omega arith)
 numbered_held (held n f) r h l = let e = h.1 in (f, cc)
 
 module _ {C F : Type 0} (place : C → Place F) where
   -- what is read in the cells that are used stands at the place
-  pub used_nth : (memory cs : List C) (k : ℕ) (x : C) → cs ≡ take 4096 memory → k < length cs → x ≡ get_or cs k x → Nth (places_of place memory) k (place x)
+  used_nth : (memory cs : List C) (k : ℕ) (x : C) → cs ≡ take 4096 memory → k < length cs → x ≡ get_or cs k x → Nth (places_of place memory) k (place x)
   used_nth memory cs k x e h i = let P : List C → Type 0 = λ zs. Nth (map place zs) k (place x) in subst P e (nth_map place cs k x h i)
 
-  pub used_length : (memory cs : List C) → cs ≡ take 4096 memory → length (places_of place memory) ≡ length cs
+  used_length : (memory cs : List C) → cs ≡ take 4096 memory → length (places_of place memory) ≡ length cs
   used_length memory cs e = length-map (take 4096 memory) place ∙ ap length (sym e)
 
   -- what `get` reads in the cells that are used
@@ -111,7 +111,7 @@ module _ {C F : Type 0} (place : C → Place F) where
       ∙ take_at cs (drop n memory) n l)
 
   -- cells that are not empty, read by their index
-  pub filled_from : (cells : List C) (from to : ℕ) → ((d : C) (k : ℕ) → from ≤ k → k < to → k < length cells → is_empty (place (get_or cells k d)) ≡ false) → Filled (map place cells) from to
+  filled_from : (cells : List C) (from to : ℕ) → ((d : C) (k : ℕ) → from ≤ k → k < to → k < length cells → is_empty (place (get_or cells k d)) ≡ false) → Filled (map place cells) from to
   filled_from [] from to h k a b e = e
   filled_from (c ∷ cells) from to h k a b e =
       let cs : List C = c ∷ cells in
@@ -120,7 +120,7 @@ module _ {C F : Type 0} (place : C → Place F) where
       let n : Nth (map place cs) k (place x) = nth_map place cs k x i (get_or_default cs k c x i) in
       empty_false (place x) (h c k a b i) (nth_one (map place cs) k (place x) empty n e)
 
-  pub empty_at : (cells : List C) (k : ℕ) → k < length cells → ((d : C) → is_empty (place (get_or cells k d)) ≡ true) → Nth (map place cells) k empty
+  empty_at : (cells : List C) (k : ℕ) → k < length cells → ((d : C) → is_empty (place (get_or cells k d)) ≡ true) → Nth (map place cells) k empty
   empty_at [] k i h = absurd (omega arith)
   empty_at (c ∷ cells) k i h =
       let cs : List C = c ∷ cells in
@@ -177,7 +177,7 @@ nth_held {F} s k p n a h l =
 -- one more place counted
 pub empties_empty : {F : Type 0} (s : List (Place F)) (p : Place F) → p ≡ empty → empties (s ++ p ∷ []) ≡ empties s + 1
 empties_empty [] empty e = refl
-empties_empty [] (held n f) e = absurd (empty_held (held n f) n f e refl)
+empties_empty [] (held n f) e = cc
 empties_empty (empty ∷ s) p e = let h = empties_empty s p e in omega arith
 empties_empty (held n f ∷ s) p e = empties_empty s p e
 
