@@ -1,4 +1,4 @@
-use Rattle.std.proofs.Common.{◌<◌, refl, inl, arith}
+use Rattle.std.proofs.Common.{◌<◌, ◌≤◌, refl, inl, arith}
 use Rattle.facts.proofs.Nths.{nth_within}
 use Rattle.facts.specs.Places.{empty}
 use Rattle.stores.specs.Built.{cells_of}
@@ -19,4 +19,5 @@ pub returns-clause-puts : goal.returns-clause-puts
 returns-clause-puts g c =
     let found = rw c.used.ensures.value at c.in_ok-place.ensures.0 in
     let n : 0 < c.args.number = omega arith in
-    (n, c.if-fact-gt-MOST_ARGS.false, found, rw (c.holding.ensures n c.if-fact-gt-MOST_ARGS.false) at c.write.ensures.writes)
+    let q : c.args.fact.now.count ≤ 3 = omega arith in
+    (n, q, found, rw (c.holding.ensures n q) at c.write.ensures.writes)
