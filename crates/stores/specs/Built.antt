@@ -5,7 +5,7 @@ use Rattle.facts.specs.Places.{Place}
 use Rattle.stores.specs.Cells.{flat_place, packed_place, places_of}
 use Rattle.stores.specs.declared.cell.FlatCell.{FlatCell}
 use Rattle.stores.specs.declared.cell.PackedCell.{PackedCell}
-use Rattle.stores.specs.declared.cells.CellStore.{CellStore}
+use Rattle.stores.specs.declared.cell_store.CellStore.{CellStore}
 use Rattle.stores.specs.declared.flat.Mark.{Mark}
 use Rattle.stores.specs.declared.packed.Top.{Top}
 

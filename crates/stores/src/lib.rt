@@ -1,7 +1,7 @@
 #![tactic(auto)]
 
 pub mod cell;
-mod cells;
+mod cell_store;
 mod content;
 pub mod flat;
 pub mod packed;
@@ -9,7 +9,7 @@ mod pick;
 pub mod store;
 
 pub use cell::{FlatCell, PackedCell};
-pub use cells::CellStore;
+pub use cell_store::CellStore;
 pub use flat::FlatStore;
 pub use packed::PackedStore;
 pub use store::Store;

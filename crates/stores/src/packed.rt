@@ -2,7 +2,7 @@ ghost use Rattle.stores.specs.Stores.{Highest};
 ghost use Rattle.std.proofs.Common.{rules};
 
 use crate::cell::PackedCell;
-use crate::cells::CellStore;
+use crate::cell_store::CellStore;
 use crate::content::Cell;
 use crate::pick::{Pick, last_empty};
 

@@ -3,7 +3,7 @@ use Rattle.facts.proofs.Nths.{nth_within}
 use Rattle.facts.specs.Places.{held}
 use Rattle.stores.specs.Built.{cells_of}
 use Rattle.stores.proofs.Places.{nth_other, nth_held}
-use Rattle.stores.proofs.cells.CellStoreStoreValue.remove.Goals as goal
+use Rattle.stores.proofs.cell_store.CellStoreStoreValue.remove.Goals as goal
 
 pub returns-in_default-clause-removes : goal.returns-in_default-clause-removes
 returns-in_default-clause-removes g c =

@@ -1,7 +1,7 @@
 use Rattle.std.proofs.Common.{rules}
 use Rattle.std.proofs.lemmas.List.{drop-set-lt}
 use Rattle.stores.proofs.Places.{places_in, places_set}
-use Rattle.stores.proofs.cells.CellStore.write.Goals as goal
+use Rattle.stores.proofs.cell_store.CellStore.write.Goals as goal
 
 pub bounds-self-place : goal.bounds-self-place
 bounds-self-place g c = (places_in g.C.Cell.place c.args.self.now.cells.now c.args.place c.requires).0

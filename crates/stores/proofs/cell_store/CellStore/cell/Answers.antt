@@ -1,5 +1,5 @@
 use Rattle.stores.proofs.Places.{found_at}
-use Rattle.stores.proofs.cells.CellStore.cell.Goals as goal
+use Rattle.stores.proofs.cell_store.CellStore.cell.Goals as goal
 
 pub returns : goal.returns
 returns g c =

@@ -3,7 +3,7 @@ use Rattle.facts.proofs.Nths.{nth_within}
 use Rattle.facts.specs.Places.{empty}
 use Rattle.stores.specs.Built.{cells_of}
 use Rattle.stores.proofs.Places.{filled_room}
-use Rattle.stores.proofs.cells.CellStoreStoreValue.put.Goals as goal
+use Rattle.stores.proofs.cell_store.CellStoreStoreValue.put.Goals as goal
 
 pub returns-in_err-place-clause-puts : goal.returns-in_err-place-clause-puts
 returns-in_err-place-clause-puts g c =

@@ -1,6 +1,6 @@
 use Rattle.std.proofs.Common.{◌≡◌, ◌≤◌, map, take}
 use Rattle.stores.specs.Stores.{empties}
-use Rattle.stores.proofs.cells.CellStoreStoreValue.room.Given as goal
+use Rattle.stores.proofs.cell_store.CellStoreStoreValue.room.Given as goal
 
 abbrev pub invariant-loop-cell : goal.invariant-loop-cell
 invariant-loop-cell g l =

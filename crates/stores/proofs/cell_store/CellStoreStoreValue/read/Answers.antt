@@ -3,7 +3,7 @@ use Rattle.facts.proofs.Nths.{nth_within}
 use Rattle.facts.specs.Places.{held}
 use Rattle.stores.specs.Built.{cells_of}
 use Rattle.stores.proofs.Places.{holds_reads}
-use Rattle.stores.proofs.cells.CellStoreStoreValue.read.Goals as goal
+use Rattle.stores.proofs.cell_store.CellStoreStoreValue.read.Goals as goal
 
 pub returns-in_err-cell : goal.returns-in_err-cell
 returns-in_err-cell g c =

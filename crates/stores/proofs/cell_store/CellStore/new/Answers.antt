@@ -2,7 +2,7 @@ use Rattle.std.proofs.Common.{◌≡◌, ℕ, min, length, map, replicate, ap, s
 use Rattle.std.proofs.lemmas.List.{take_all}
 use Rattle.facts.specs.Places.{empty}
 use Rattle.stores.proofs.Places.{places_anew, beyond_anew}
-use Rattle.stores.proofs.cells.CellStore.new.Goals as goal
+use Rattle.stores.proofs.cell_store.CellStore.new.Goals as goal
 
 pub returns-clause-clears : goal.returns-clause-clears
 returns-clause-clears g c =

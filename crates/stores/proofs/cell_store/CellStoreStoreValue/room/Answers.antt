@@ -2,8 +2,8 @@ use Rattle.std.proofs.Common.{◌≡◌, ◌+◌, map, take, arith}
 use Rattle.std.proofs.lemmas.List.{map_more}
 use Rattle.stores.specs.Stores.{empties}
 use Rattle.stores.proofs.Places.{empties_empty, empties_full, numbered_empty, numbered_full}
-use Rattle.stores.proofs.cells.CellStoreStoreValue.room.Goals as goal
-use Rattle.stores.proofs.cells.CellStoreStoreValue.room.Goals.{then-number-eq0, else-number-eq0}
+use Rattle.stores.proofs.cell_store.CellStoreStoreValue.room.Goals as goal
+use Rattle.stores.proofs.cell_store.CellStoreStoreValue.room.Goals.{then-number-eq0, else-number-eq0}
 
 pub loop-cell-preserved : goal.loop-cell-preserved
 loop-cell-preserved g c =
