@@ -1,6 +1,9 @@
 -- What five words hold.
-use Rattle.std.proofs.Common.{◌≡◌, ℕ, zero, suc, ◌+◌, ◌*◌, ◌/◌, ◌%◌, ◌<◌, ◌≤◌, min, cond, [], ◌∷◌, take, ℤ, pos, ◌+ℤ◌, ◌≤ℤ◌, refl, ap, arith, ne_eqb}
+use Rattle.std.proofs.Common.{◌≡◌, ℕ, zero, suc, ◌/◌, ◌%◌, ◌<◌, ◌≤◌, min, cond, [], ◌∷◌, take, ℤ, pos, ◌+ℤ◌, ◌≤ℤ◌, refl, ap, ◌∙◌, arith, ne_eqb}
 use Rattle.std.proofs.lemmas.Int.{ints, clamps}
+use Rattle.std.specs.Int.{w32, saturate_signed, int_min}
+use mir.Val.{to_z, of_z}
+use Rattle.facts.specs.Kinds.{full_low, full_high}
 use Rattle.facts.specs.Places.{empty, held}
 use Rattle.stores.specs.Cells.{under, word_value, words_meaning}
 
@@ -29,16 +32,32 @@ fronts (suc (suc (suc n))) x y z x' y' z' p q r =
 -- a label of a name and a count gives both back
 pub words_exact :
     (low high : ℤ) (label first second third name count : ℕ) (x y z : ℤ) →
-    label ≡ name * 256 + count →
-    name < 256 →
+    label / 256 % 256 ≡ name →
+    label % 256 ≡ count →
     count ≤ 3 →
     (0 < count → word_value low high first ≡ x) →
     (1 < count → word_value low high second ≡ y) →
     (2 < count → word_value low high third ≡ z) →
     words_meaning low high label first second third
     ≡ record { name = name; count = count; args = take count (x ∷ (y ∷ (z ∷ []))) }
-words_exact low high label first second third name count x y z e l h p q r =
-    let n : label / 256 % 256 ≡ name = omega arith in
+words_exact low high label first second third name count x y z n l h p q r =
     let k : min 3 (label % 256) ≡ count = omega arith in
     let t = fronts count _ _ _ x y z p q r in
     cc
+
+-- the type's end lies past the kind's
+stopped : (low high s : ℤ) (w : ℕ) → full_low ≤ℤ low → high ≤ℤ full_high → s ≡ saturate_signed w32 (low +ℤ pos w) → int_min s high ≡ word_value low high w
+stopped low high s w l m e = grind (arith, ints, clamps)
+
+-- a word added to the low end and stopped at the high end
+pub word_made :
+    (low high low' high' s n : ℤ) (w : ℕ) → low ≤ℤ high → full_low ≤ℤ low → high ≤ℤ full_high → low' ≡ low → high' ≡ high →
+    s ≡ saturate_signed w32 (to_z w32 (of_z w32 low') +ℤ pos w) →
+    n ≡ int_min (to_z w32 (of_z w32 s)) (to_z w32 (of_z w32 high')) →
+    n ≡ word_value low high w
+word_made low high low' high' s n w e l m a b c d =
+    let p : to_z w32 (of_z w32 low') ≡ low = omega (arith, ints) in
+    let q : to_z w32 (of_z w32 high') ≡ high = omega (arith, ints) in
+    let t : s ≡ saturate_signed w32 (low +ℤ pos w) = rw p at c in
+    let r : to_z w32 (of_z w32 s) ≡ s = grind (arith, ints, clamps) in
+    rw (r, q) at d ∙ stopped low high s w l m t

@@ -1,5 +1,5 @@
 -- What the cells of the built stores mean. Every cell has a meaning; a number 0 makes it an empty place.
-use Rattle.std.specs.Prelude.{◌≡◌, ℕ, ◌/◌, ◌%◌, ◌<◌, ◌≤◌, min, cond, List, [], ◌∷◌, map, take, ℤ, pos, ◌+ℤ◌, Some, None, Option, ◌==◌}
+use Rattle.std.specs.Prelude.{◌≡◌, ℕ, ◌/◌, ◌%◌, ◌<◌, ◌≤◌, min, Bool, true, false, cond, List, [], ◌∷◌, map, take, drop, ℤ, pos, ◌+ℤ◌, Some, None, Option, ◌==◌}
 use Rattle.std.specs.Int.{int_min}
 use Rattle.facts.specs.declared.fact.Fact.{Fact}
 use Rattle.facts.specs.Meanings.{Meaning, meaning}
@@ -36,6 +36,15 @@ packed_place low high c = under c.number (words_meaning low high c.label c.first
 -- the places of a memory of cells: the first 4,096
 abbrev pub places_of : {C F : Type 0} → (C → Place F) → List C → List (Place F)
 places_of place memory = map place (take 4096 memory)
+
+-- the cells past the first 4,096 stay as they were
+abbrev pub Beyond : {C : Type 0} → List C → List C → Type 0
+Beyond before after = drop 4096 after ≡ drop 4096 before
+
+-- whether a place is empty
+abbrev pub is_empty : {F : Type 0} → Place F → Bool
+is_empty empty = true
+is_empty (held n f) = false
 
 -- the number at a place: 0 exactly at an empty one
 abbrev pub Numbered : {F : Type 0} → Place F → ℕ → Type 0

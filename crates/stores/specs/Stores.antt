@@ -30,10 +30,10 @@ Removed s p n true s' = (m : Meaning) × (0 < n) × Nth s p (held n m) × (s' �
 abbrev pub Filled : {F : Type 0} → List (Place F) → ℕ → ℕ → Type 0
 Filled s from to = (k : ℕ) → from ≤ k → k < to → Nth s k empty → ⊥
 
--- the first empty place from one on, below another
-abbrev pub FirstEmpty : {F : Type 0} → List (Place F) → ℕ → ℕ → Option ℕ → Type 0
-FirstEmpty s from to None = Filled s from to
-FirstEmpty s from to (Some p) = (from ≤ p) × (p < to) × Nth s p empty × Filled s from p
+-- the first empty place
+abbrev pub FirstEmpty : {F : Type 0} → List (Place F) → Option ℕ → Type 0
+FirstEmpty s None = Filled s 0 (length s)
+FirstEmpty s (Some p) = Nth s p empty × Filled s 0 p
 
 -- the last empty place
 abbrev pub LastEmpty : {F : Type 0} → List (Place F) → Option ℕ → Type 0
@@ -44,10 +44,11 @@ LastEmpty s (Some p) = Nth s p empty × Filled s (suc p) (length s)
 abbrev pub Next : {F : Type 0} → List (Place F) → ℕ → ℕ → Type 0
 Next s mark p = ((mark ≤ p) × Filled s mark p) ⊎ ((p < mark) × Filled s mark (length s) × Filled s 0 p)
 
--- what the search round from a mark answers
-abbrev pub NextEmpty : {F : Type 0} → List (Place F) → ℕ → Option ℕ → Type 0
-NextEmpty s mark None = Filled s 0 (length s)
-NextEmpty s mark (Some p) = Nth s p empty × Next s mark p
+-- what a picker answers: an empty place and the picker after it, by its own rule; none where no place is empty
+abbrev pub Picked :
+    {P : Type 0} → (P → List (Place Meaning) → Option ℕ → P → Type 0) → P → List (Place Meaning) → Option (ℕ × P) → Type 0
+Picked picks p s None = Filled s 0 (length s)
+Picked picks p s (Some x) = Nth s x.0 empty × picks p s (Some x.0) x.1
 
 -- the place that the flat store fills, and its mark then
 abbrev pub Marked : {F : Type 0} → List (Place F) → ℕ → Option ℕ → ℕ → Type 0

@@ -1,6 +1,7 @@
 use crate::cell::{FlatCell, PackedCell};
 use crate::flat::FlatStore;
 use crate::packed::PackedStore;
+use crate::promises::{new_flat, new_packed, put_flat, put_packed, remove_flat, remove_packed};
 use crate::store::Store;
 use facts::{Fact, Kind, ReadFact, Reading, WholeCount, read_fact, write_fact};
 use std::marker::PhantomData;
@@ -64,32 +65,35 @@ fn refuses<S: Store<Reading>>(rt: &impl Abort, store: &mut S, place: usize) {
 #[test]
 fn the_flat_store_goes_round(rt: HostRuntime) {
     let mut cells = [flat_junk(); 4];
-    let mut store = FlatStore::new(&mut cells);
+    let mut store = new_flat(&mut cells);
     assert_eq!(rt; store.room(), 4);
     for (place, number) in [(0, 1), (1, 2), (2, 3), (3, 4_294_967_295)] {
-        assert_eq!(rt; store.put(&reading(1, 84), number), Some(place));
+        assert_eq!(rt; put_flat(&mut store, &reading(1, 84), number), Some(place));
     }
-    assert_eq!(rt; store.put(&reading(1, 84), 5), None);
-    assert!(rt; store.remove(1, 2));
-    assert!(rt; store.remove(3, 4_294_967_295));
+    assert_eq!(rt; put_flat(&mut store, &reading(1, 84), 5), None);
+    assert!(rt; remove_flat(&mut store, 1, 2));
+    assert!(rt; remove_flat(&mut store, 3, 4_294_967_295));
     assert_eq!(rt; store.room(), 2);
-    assert_eq!(rt; store.put(&reading(1, 84), 6), Some(3));
-    assert_eq!(rt; store.put(&reading(1, 84), 7), Some(1));
+    assert_eq!(rt; put_flat(&mut store, &reading(1, 84), 6), Some(3));
+    assert_eq!(rt; put_flat(&mut store, &reading(1, 84), 7), Some(1));
 }
 
 #[test]
 fn the_packed_store_fills_from_the_top(rt: HostRuntime) {
     let mut cells = [packed_junk(); 4];
-    let mut store: PackedStore<Reading> = PackedStore::new(&mut cells);
+    let mut store: PackedStore<Reading> = new_packed(&mut cells);
     assert_eq!(rt; store.room(), 4);
     for (place, number) in [(3, 1), (2, 2), (1, 3), (0, 4_294_967_295)] {
-        assert_eq!(rt; store.put(&reading(1, 84), number), Some(place));
+        assert_eq!(rt;
+            put_packed(&mut store, &reading(1, 84), number),
+            Some(place)
+        );
     }
-    assert_eq!(rt; store.put(&reading(1, 84), 5), None);
-    assert!(rt; store.remove(1, 3));
-    assert!(rt; store.remove(2, 2));
+    assert_eq!(rt; put_packed(&mut store, &reading(1, 84), 5), None);
+    assert!(rt; remove_packed(&mut store, 1, 3));
+    assert!(rt; remove_packed(&mut store, 2, 2));
     assert_eq!(rt; store.room(), 2);
-    assert_eq!(rt; store.put(&reading(1, 84), 6), Some(2));
+    assert_eq!(rt; put_packed(&mut store, &reading(1, 84), 6), Some(2));
 }
 
 #[test]
