@@ -4,7 +4,7 @@ ghost use Rattle.facts.specs.Places.{Place, empty, held};
 ghost use Rattle.stores.specs.Cells.{flat_place, packed_place, is_empty, word_value, Numbered, Holds};
 
 use crate::cell::{FlatCell, PackedCell};
-use facts::{Fact, Kind, cut_count};
+use facts::{Fact, Kind};
 use std::marker::PhantomData;
 
 // A cell means a place, which is empty or holds a fact of the cell's kind.
@@ -50,7 +50,7 @@ impl<V: Kind> Cell for FlatCell<V> {
         if self.number == 0 {
             return None;
         }
-        Some((self.number, cut_count(&self.fact)))
+        Some((self.number, self.fact.cut()))
     }
 
     fn holding(number: u32, fact: &Fact<V>) -> FlatCell<V> {
@@ -115,7 +115,7 @@ impl<V: Kind> Cell for PackedCell<V> {
             value_of(self.second),
             value_of(self.third),
         );
-        Some((self.number, cut_count(&Fact { name, count, args })))
+        Some((self.number, Fact { name, count, args }.cut()))
     }
 
     fn holding(number: u32, fact: &Fact<V>) -> PackedCell<V> {

@@ -3,7 +3,7 @@ use crate::flat::FlatStore;
 use crate::packed::PackedStore;
 use crate::promises::{new_flat, new_packed, put_flat, put_packed, remove_flat, remove_packed};
 use crate::store::Store;
-use facts::{Fact, Kind, ReadFact, Reading, WholeCount, read_fact, write_fact};
+use facts::{Fact, Kind, ReadFact, Reading, WholeCount};
 use std::marker::PhantomData;
 use std::process::Abort;
 use std::test::Fail;
@@ -40,10 +40,9 @@ fn flat_junk() -> FlatCell<Reading> {
 
 // What a place holds, read field by field.
 fn held<V: Kind, S: Store<V>>(store: &S, place: usize) -> Option<(u32, ReadFact)> {
-    match store.read(place) {
-        Some((number, fact)) => Some((number, read_fact(&fact))),
-        None => None,
-    }
+    store
+        .read(place)
+        .map(|(number, fact)| (number, fact.read()))
 }
 
 // Refusals and questions that say no, on a store of two places with number 7 in one of them, change nothing.
@@ -130,7 +129,12 @@ fn only_meanings_are_kept(rt: HostRuntime) -> Result<(), Fail> {
 fn packed_counts_reach_both_ends(rt: HostRuntime) -> Result<(), Fail> {
     let mut cells = [packed_junk()];
     let mut store: PackedStore<WholeCount> = PackedStore::new(&mut cells);
-    let Some(fact) = write_fact(255, 3, (-134_217_728, 134_217_727, -1)) else {
+    let read = Fact {
+        name: 255,
+        count: 3,
+        args: (-134_217_728, 134_217_727, -1),
+    };
+    let Some(fact) = Fact::make(read) else {
         return Err(Fail::new("the numbers lie within the ends"));
     };
     assert_eq!(rt; store.put(&fact, 1), Some(0));
