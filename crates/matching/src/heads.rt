@@ -1,4 +1,4 @@
-ghost use Rattle.std.specs.Prelude.{◌≡◌, true, false, map, MatchOption};
+ghost use Rattle.std.specs.Prelude.{◌≡◌, map, is_some, MatchOption};
 ghost use Rattle.std.specs.Iterator.{AlwaysYields};
 ghost use Rattle.std.specs.Iterator.Adapters.{chain_steps};
 ghost use Rattle.std.specs.Slice.Iter.{iter_steps};
@@ -39,7 +39,7 @@ fn heads_fit(rule: &Rule, facts: &[ReadFact]) -> bool
 
 // What the variables mean by facts that fit; none where some fact does not fit.
 pub(crate) fn bound(rule: &Rule, facts: &[ReadFact]) -> Option<Values>
-    ensures fit { MatchOption result (heads_fit (parts rule.now) (map read_meaning facts.now) ≡ false) (λ _. heads_fit (parts rule.now) (map read_meaning facts.now) ≡ true) }
+    ensures fit { is_some result ≡ heads_fit (parts rule.now) (map read_meaning facts.now) }
     ensures numbers { MatchOption result (values (parts rule.now) (map read_meaning facts.now) ≡ unbound) (λ v. v.numbers ≡ values (parts rule.now) (map read_meaning facts.now)) }
 {
     if !heads_fit(rule, facts) {

@@ -21,10 +21,10 @@ fn verdict_on(rule: &Rule, facts: &[ReadFact], ends: Ends) -> Verdict
     let Some(values) = bound(rule, facts) else {
         return Verdict::NoMatch;
     };
-    if !agree(rule, facts, &values) || !values.all_hold(rule.guards.as_slice()) {
+    if !agree(rule, facts, &values) || !values.all_hold(&rule.guards) {
         return Verdict::NoMatch;
     }
-    if body_within(rule.body.as_slice(), &values, ends) {
+    if body_within(&rule.body, &values, ends) {
         Verdict::Applies
     } else {
         Verdict::OutsideEnds
