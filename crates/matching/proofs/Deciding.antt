@@ -17,7 +17,7 @@ use Rattle.grammar.specs.declared.part.Term.{Term}
 use Rattle.grammar.specs.declared.part.Guard.{Guard}
 use Rattle.args.specs.Listed.{listed, amount}
 use Rattle.grammar.specs.Parts.{Parts}
-use Rattle.matching.specs.Every.{every}
+use Rattle.std.specs.List.{list_all}
 use Rattle.matching.specs.Terms.{equal, operand_value, term_value, compares, holds}
 use Rattle.matching.specs.Heads.{fits_head, all_fit, Met, met, bind_one, bind_all, unbound, agree}
 use Rattle.matching.specs.Applying.{heads, values, within, fact_within, heads_fit, numbers_agree, guards_hold, in_ends, matches, judged, verdict}
@@ -41,8 +41,8 @@ compares_decides Less a b = lt_decides a b
 compares_decides AtMost a b = le_decides a b
 
 module _ {X : Type 0} (p : X → Bool) (P : X → Type 0) (each : (x : X) → Decides (p x) (P x)) where
-  every_decides : (xs : List X) → Decides (every p xs) (AllByRecursion P xs)
-  every_decides = Decides-by_and p P (every p) each refl (λ _ _. refl)
+  every_decides : (xs : List X) → Decides (list_all p xs) (AllByRecursion P xs)
+  every_decides = Decides-by_and p P (list_all p) each refl (λ _ _. refl)
 
 fit_decides : (hs : List Head) (fs : List Meaning) → Decides (all_fit hs fs) (Fit hs fs)
 fit_decides [] [] = (λ _. tt, λ _. refl)
@@ -55,10 +55,10 @@ module _ (ns : List ℤ) where
   numbers_decide : (ms : List Met) → Decides (agree ns ms) (AllByRecursion (λ (m : Met). operand_value ns m.operand ≡ m.number) ms)
   numbers_decide = every_decides (λ (m : Met). equal (operand_value ns m.operand) m.number) (λ (m : Met). operand_value ns m.operand ≡ m.number) (λ m. equal_decides (operand_value ns m.operand) m.number)
 
-  guards_decide : (gs : List Guard) → Decides (every (holds ns) gs) (AllByRecursion (λ (g : Guard). Compares g.test (term_value ns g.left) (term_value ns g.right)) gs)
+  guards_decide : (gs : List Guard) → Decides (list_all (holds ns) gs) (AllByRecursion (λ (g : Guard). Compares g.test (term_value ns g.left) (term_value ns g.right)) gs)
   guards_decide = every_decides (holds ns) (λ (g : Guard). Compares g.test (term_value ns g.left) (term_value ns g.right)) (λ g. compares_decides g.test (term_value ns g.left) (term_value ns g.right))
 
-  inside_decides : (low high : ℤ) (r : Parts) → Decides (every (fact_within low high ns) r.body) (Inside low high r ns)
+  inside_decides : (low high : ℤ) (r : Parts) → Decides (list_all (fact_within low high ns) r.body) (Inside low high r ns)
   inside_decides low high r =
       every_decides (fact_within low high ns) (λ (b : BodyFact). AllByRecursion (λ (t : Term). (low ≤ℤ term_value ns t) × (term_value ns t ≤ℤ high)) (listed b.args)) (λ b. every_decides (λ (t : Term). within low high (term_value ns t)) (λ (t : Term). (low ≤ℤ term_value ns t) × (term_value ns t ≤ℤ high)) (λ t. Decides-and (le_z low (term_value ns t)) (le_z (term_value ns t) high) (le_decides low (term_value ns t)) (le_decides (term_value ns t) high)) (listed b.args)) r.body
 

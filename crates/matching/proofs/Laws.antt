@@ -14,7 +14,7 @@ use Rattle.grammar.specs.declared.part.Term.{Term}
 use Rattle.args.specs.Listed.{listed, amount}
 use Rattle.grammar.specs.Parts.{Parts}
 use Rattle.matching.specs.declared.verdict.Verdict.TheVariants.{Applies}
-use Rattle.matching.specs.Every.{every}
+use Rattle.std.specs.List.{list_all}
 use Rattle.matching.specs.Terms.{term_value}
 use Rattle.matching.specs.Heads.{all_fit, fits_at, fits_head}
 use Rattle.matching.specs.Applying.{heads, fits, values, heads_fit, numbers_agree, guards_hold, matches, within, fact_within, in_ends, clamped, written, exact, body, exact_body, verdict}
@@ -63,18 +63,18 @@ module _ (low high : ℤ) (ns : List ℤ) where
       let h : le_z n high ≡ true = (and_parts (le_z low n) (le_z n high) e).1 in
       grind (arith, ints)
 
-  args_exact : (ts : List Term) → every (λ (t : Term). within low high (term_value ns t)) ts ≡ true → map (λ (t : Term). clamped low high (term_value ns t)) ts ≡ map (term_value ns) ts
+  args_exact : (ts : List Term) → list_all (λ (t : Term). within low high (term_value ns t)) ts ≡ true → map (λ (t : Term). clamped low high (term_value ns t)) ts ≡ map (term_value ns) ts
   args_exact [] e = refl
   args_exact (t ∷ ts) e =
-      let both = and_parts (within low high (term_value ns t)) (every (λ (u : Term). within low high (term_value ns u)) ts) e in
+      let both = and_parts (within low high (term_value ns t)) (list_all (λ (u : Term). within low high (term_value ns u)) ts) e in
       let one = clamped_inside (term_value ns t) both.0 in
       let more = args_exact ts both.1 in
       cc
 
-  facts_exact : (bs : List BodyFact) → every (fact_within low high ns) bs ≡ true → map (λ (b : BodyFact). written low high ns b) bs ≡ map (exact ns) bs
+  facts_exact : (bs : List BodyFact) → list_all (fact_within low high ns) bs ≡ true → map (λ (b : BodyFact). written low high ns b) bs ≡ map (exact ns) bs
   facts_exact [] e = refl
   facts_exact (b ∷ bs) e =
-      let both = and_parts (fact_within low high ns b) (every (fact_within low high ns) bs) e in
+      let both = and_parts (fact_within low high ns b) (list_all (fact_within low high ns) bs) e in
       let one = args_exact (listed b.args) both.0 in
       let more = facts_exact bs both.1 in
       cc

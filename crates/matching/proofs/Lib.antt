@@ -1,7 +1,5 @@
-mod Bits
 mod Bodies
 mod Deciding
-mod Everies
 pub mod Laws
 mod Meetings
-mod Positions
+mod Roads

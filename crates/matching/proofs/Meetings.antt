@@ -1,75 +1,66 @@
--- Going through heads and facts side by side, one position at a time.
-use Rattle.std.proofs.Common.{◌≡◌, ℕ, suc, ◌+◌, ◌<◌, ◌≤◌, Bool, true, false, ◌&&◌, List, [], ◌∷◌, ◌++◌, map, length, get_or, take, drop, ℤ, pos, sym, refl, ap, ◌∙◌, inl, inr, arith}
-use Rattle.std.proofs.lemmas.List.{drop_more, drop_all, length-map}
-use Rattle.std.proofs.lemmas.Bool.{and_parts, eqb-true, false≢true, cases_Bool}
-use Rattle.facts.specs.declared.fact.ReadFact.{ReadFact}
-use Rattle.facts.specs.Meanings.{Meaning, read_meaning}
+-- Heads and facts side by side: as pairs, in order.
+use Rattle.std.proofs.Common.{◌≡◌, ℕ, zero, suc, Bool, true, false, ◌&&◌, List, [], ◌∷◌, ◌++◌, map, length, ℤ, sym, refl, ap, ◌∙◌, inl, inr, arith, Option, Some, None, Bor}
+use Rattle.std.specs.List.{list_all, zip, fold, slice_get}
+use Rattle.std.specs.Option.{MatchOption, option_map, option_map_or}
+use Rattle.std.proofs.lemmas.List.{length-map}
+use Rattle.std.proofs.lemmas.List.Folds.{list_all-append}
+use Rattle.std.proofs.lemmas.Bool.{and_parts, false≢true, cases_Bool}
+use Rattle.facts.specs.Meanings.{ReadFact, Meaning, read_meaning}
 use Rattle.grammar.specs.declared.part.Operand.{Operand}
-use Rattle.args.specs.declared.Args.{Args}
-use Rattle.args.specs.declared.Args.TheVariants.{Zero, One, Two, Three}
 use Rattle.grammar.specs.Atoms.{Head}
-use Rattle.args.specs.Listed.{listed, amount}
-use Rattle.matching.proofs.Everies.{every_append}
+use Rattle.args.specs.Listed.{listed}
+use Rattle.matching.specs.declared.values.Values.{Values}
 use Rattle.matching.specs.Terms.{equal, operand_value}
-use Rattle.matching.specs.Heads.{fits_head, all_fit, Met, met, met_args, bind_one, bind_all, agree}
+use Rattle.matching.specs.Heads.{fits_head, all_fit, Met, met, met_args, bind_one, bind_all, agree, fits_at}
 
--- the three numbers of a read fact, spare ones too
-abbrev pub three : ReadFact → List ℤ
-three f = f.args.0 ∷ (f.args.1 ∷ (f.args.2 ∷ []))
+-- ---- one head and one fact
 
--- as many operands as a fact has arguments do not meet the spare ones
-met_first : (os : Args Operand) (a b c : ℤ) (n : ℕ) → amount os ≡ n → met_args (listed os) (take n (a ∷ (b ∷ (c ∷ [])))) ≡ met_args (listed os) (a ∷ (b ∷ (c ∷ [])))
-met_first Zero a b c n e = refl
-met_first (One x) a b c n e = rw (← e)
-met_first (Two x y) a b c n e = rw (← e)
-met_first (Three x y z) a b c n e = rw (← e)
+pub args_agree : (ns : List ℤ) (os : List Operand) (ms : List ℤ) → list_all (λ (p : Operand × ℤ). equal (operand_value ns p.0) p.1) (zip os ms) ≡ agree ns (met_args os ms)
+args_agree ns [] ms = refl
+args_agree ns (o ∷ os) [] = refl
+args_agree ns (o ∷ os) (m ∷ ms) = ap (λ (b : Bool). equal (operand_value ns o) m && b) (args_agree ns os ms)
 
-pub met_three : (h : Head) (f : ReadFact) → fits_head h (read_meaning f) ≡ true → met_args (listed h.args) (read_meaning f).args ≡ met_args (listed h.args) (three f)
-met_three h f e = met_first h.args f.args.0 f.args.1 f.args.2 f.count (eqb-true _ _ (and_parts _ _ e).1)
+abbrev pub with_one : Values → Operand × ℤ → Values
+with_one v p = record { numbers = bind_one v.numbers p.0 p.1 }
+
+pub args_bind : (v : Values) (os : List Operand) (ms : List ℤ) → (fold with_one v (zip os ms)).numbers ≡ bind_all v.numbers (met_args os ms)
+args_bind v [] ms = refl
+args_bind v (o ∷ os) [] = refl
+args_bind v (o ∷ os) (m ∷ ms) = args_bind (with_one v (o, m)) os ms
+
+-- ---- all heads and all facts
 
 pub bind_all_append : (ns : List ℤ) (ms ms' : List Met) → bind_all ns (ms ++ ms') ≡ bind_all (bind_all ns ms) ms'
 bind_all_append ns [] ms' = refl
 bind_all_append ns (m ∷ ms) ms' = bind_all_append (bind_one ns m.operand m.number) ms ms'
 
--- heads and facts from the position i on
-abbrev pub fit_from : List Head → List ReadFact → ℕ → Bool
-fit_from hs fs i = all_fit (drop i hs) (map read_meaning (drop i fs))
+-- what one pair says
+abbrev pub pair_fits : Head × ReadFact → Bool
+pair_fits p = fits_head p.0 (read_meaning p.1)
 
-abbrev pub met_from : List Head → List ReadFact → ℕ → List Met
-met_from hs fs i = met (drop i hs) (map read_meaning (drop i fs))
+abbrev pub pair_met : Head × ReadFact → List Met
+pair_met p = met_args (listed p.0.args) (read_meaning p.1).args
 
--- what stands past the end of heads and of facts, for `get_or`
-abbrev pub no_head : Head
-no_head = record { name = 0; args = Zero }
+pub heads_fit : (hs : List Head) (fs : List ReadFact) → length fs ≡ length hs → list_all pair_fits (zip hs fs) ≡ all_fit hs (map read_meaning fs)
+heads_fit [] [] e = refl
+heads_fit [] (f ∷ fs) e = absurd (omega arith)
+heads_fit (h ∷ hs) [] e = absurd (omega arith)
+heads_fit (h ∷ hs) (f ∷ fs) e = ap (λ (b : Bool). fits_head h (read_meaning f) && b) (heads_fit hs fs (omega arith))
 
-abbrev pub no_fact : ReadFact
-no_fact = record { name = 0; count = 0; args = (pos 0, pos 0, pos 0) }
+abbrev pub with_pair : Values → Head × ReadFact → Values
+with_pair v p = record { numbers = bind_all v.numbers (pair_met p) }
 
-module _ (hs : List Head) (fs : List ReadFact) (i : ℕ) (inside : i < length hs) (inside' : i < length fs) where
-  pub fit_next : fit_from hs fs i ≡ (fits_head (get_or hs i no_head) (read_meaning (get_or fs i no_fact)) && fit_from hs fs (i + 1))
-  fit_next = rw (drop_more hs i no_head inside, drop_more fs i no_fact inside')
+pub heads_bind : (v : Values) (hs : List Head) (fs : List ReadFact) → (fold with_pair v (zip hs fs)).numbers ≡ bind_all v.numbers (met hs (map read_meaning fs))
+heads_bind v [] fs = refl
+heads_bind v (h ∷ hs) [] = refl
+heads_bind v (h ∷ hs) (f ∷ fs) =
+    heads_bind (with_pair v (h, f)) hs fs ∙ sym (bind_all_append v.numbers (pair_met (h, f)) (met hs (map read_meaning fs)))
 
-  -- the head and the fact at i fit, and so do those after them
-  pub fit_both : fit_from hs fs i ≡ true → (fits_head (get_or hs i no_head) (read_meaning (get_or fs i no_fact)) ≡ true) × (fit_from hs fs (i + 1) ≡ true)
-  fit_both e = and_parts (fits_head (get_or hs i no_head) (read_meaning (get_or fs i no_fact))) (fit_from hs fs (i + 1)) (sym fit_next ∙ e)
-
-  module _ (ns : List ℤ) (fit : fits_head (get_or hs i no_head) (read_meaning (get_or fs i no_fact)) ≡ true) where
-    met_next : met_from hs fs i ≡ met_args (listed (get_or hs i no_head).args) (three (get_or fs i no_fact)) ++ met_from hs fs (i + 1)
-    met_next = rw (drop_more hs i no_head inside, drop_more fs i no_fact inside') (ap (λ (ms : List Met). ms ++ met_from hs fs (i + 1)) (met_three (get_or hs i no_head) (get_or fs i no_fact) fit))
-
-    pub bind_all_next : bind_all ns (met_from hs fs i) ≡ bind_all (bind_all ns (met_args (listed (get_or hs i no_head).args) (three (get_or fs i no_fact)))) (met_from hs fs (i + 1))
-    bind_all_next = ap (bind_all ns) met_next ∙ bind_all_append ns (met_args (listed (get_or hs i no_head).args) (three (get_or fs i no_fact))) (met_from hs fs (i + 1))
-
-    pub agree_next : agree ns (met_from hs fs i) ≡ (agree ns (met_args (listed (get_or hs i no_head).args) (three (get_or fs i no_fact))) && agree ns (met_from hs fs (i + 1)))
-    agree_next = ap (agree ns) met_next ∙ every_append (λ (m : Met). equal (operand_value ns m.operand) m.number) (met_args (listed (get_or hs i no_head).args) (three (get_or fs i no_fact))) (met_from hs fs (i + 1))
-
--- the end of the walk
-module _ (hs : List Head) (fs : List ReadFact) (i : ℕ) (past : length hs ≤ i) where
-  pub fit_end : length hs ≡ length fs → fit_from hs fs i ≡ true
-  fit_end e = let past' : length fs ≤ i = omega arith in rw (drop_all i hs past, drop_all i fs past')
-
-  pub met_end : met_from hs fs i ≡ []
-  met_end = rw (drop_all i hs past)
+pub heads_agree : (ns : List ℤ) (hs : List Head) (fs : List ReadFact) → list_all (λ (p : Head × ReadFact). agree ns (pair_met p)) (zip hs fs) ≡ agree ns (met hs (map read_meaning fs))
+heads_agree ns [] fs = refl
+heads_agree ns (h ∷ hs) [] = refl
+heads_agree ns (h ∷ hs) (f ∷ fs) =
+    ap (λ (b : Bool). agree ns (pair_met (h, f)) && b) (heads_agree ns hs fs) ∙ sym (list_all-append (λ (m : Met). equal (operand_value ns m.operand) m.number) (pair_met (h, f)) (met hs (map read_meaning fs)))
 
 pub fit_length : (hs : List Head) (ms : List Meaning) → all_fit hs ms ≡ true → length hs ≡ length ms
 fit_length [] [] e = refl
@@ -77,9 +68,17 @@ fit_length [] (m ∷ ms) e = absurd (false≢true e)
 fit_length (h ∷ hs) [] e = absurd (false≢true e)
 fit_length (h ∷ hs) (m ∷ ms) e = ap suc (fit_length hs ms (and_parts (fits_head h m) (all_fit hs ms) e).1)
 
-pub fit_lengths : (hs : List Head) (fs : List ReadFact) → all_fit hs (map read_meaning fs) ≡ true → length hs ≡ length fs
-fit_lengths hs fs e = fit_length hs (map read_meaning fs) e ∙ length-map fs read_meaning
-
-pub unfit : (hs : List Head) (fs : List ReadFact) → (length hs ≡ length fs → ⊥) → false ≡ all_fit hs (map read_meaning fs)
+pub unfit : (hs : List Head) (fs : List ReadFact) → (length fs ≡ length hs → ⊥) → false ≡ all_fit hs (map read_meaning fs)
 unfit hs fs ne =
-    elim (cases_Bool (all_fit hs (map read_meaning fs))) [ inl e ↦ absurd (ne (fit_lengths hs fs e)) | inr e ↦ sym e ]
+    elim (cases_Bool (all_fit hs (map read_meaning fs))) [ inl e ↦ absurd (ne (omega (arith, fit_length hs (map read_meaning fs) e, length-map fs read_meaning))) | inr e ↦ sym e ]
+
+-- ---- the head at a position
+
+pub fits_there : (hs : List Head) (j : ℕ) (m : Meaning) → option_map_or (λ h. fits_head h m) (slice_get hs j) false ≡ fits_at hs j m
+fits_there [] j m = refl
+fits_there (h ∷ hs) zero m = refl
+fits_there (h ∷ hs) (suc j) m = fits_there hs j m
+
+pub fits_found : (o : Option (Bor Head)) (r : Bool) (m : Meaning) (P : Bor Head → Type 0) → ((h : Bor Head) → P h → r ≡ fits_head h.now m) → MatchOption o (r ≡ false) P → r ≡ option_map_or (λ h. fits_head h m) (option_map (λ (h : Bor Head). h.now) o) false
+fits_found None r m P each e = e
+fits_found (Some h) r m P each p = each h p

@@ -7,7 +7,7 @@ use Rattle.args.specs.Listed.{listed, amount}
 use Rattle.grammar.specs.Parts.{Parts}
 use Rattle.matching.specs.declared.verdict.Verdict.{Verdict}
 use Rattle.matching.specs.declared.verdict.Verdict.TheVariants.{NoMatch, OutsideEnds, Applies}
-use Rattle.matching.specs.Every.{every}
+use Rattle.std.specs.List.{list_all}
 use Rattle.matching.specs.Terms.{term_value, holds}
 use Rattle.matching.specs.Heads.{all_fit, fits_at, met, bound, agree}
 
@@ -29,7 +29,7 @@ within low high n = int_le low n && int_le n high
 
 -- so is every value of a body fact, under given values of the variables
 abbrev pub fact_within : ℤ → ℤ → List ℤ → BodyFact → Bool
-fact_within low high ns b = every (λ (t : Term). within low high (term_value ns t)) (listed b.args)
+fact_within low high ns b = list_all (λ (t : Term). within low high (term_value ns t)) (listed b.args)
 
 -- the first condition: names and counts agree
 abbrev pub heads_fit : Parts → List Meaning → Bool
@@ -41,11 +41,11 @@ numbers_agree r fs = agree (values r fs) (met (heads r) fs)
 
 -- the third: every guard holds in whole numbers
 abbrev pub guards_hold : Parts → List Meaning → Bool
-guards_hold r fs = every (holds (values r fs)) r.guards
+guards_hold r fs = list_all (holds (values r fs)) r.guards
 
 -- the fourth: every body value lies between the ends
 abbrev pub in_ends : ℤ → ℤ → Parts → List Meaning → Bool
-in_ends low high r fs = every (fact_within low high (values r fs)) r.body
+in_ends low high r fs = list_all (fact_within low high (values r fs)) r.body
 
 -- heads and guards hold: the first three conditions
 abbrev pub matches : Parts → List Meaning → Bool

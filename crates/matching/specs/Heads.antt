@@ -5,7 +5,7 @@ use Rattle.grammar.specs.declared.part.Operand.{Operand}
 use Rattle.grammar.specs.declared.part.Operand.TheVariants.{Var, Const}
 use Rattle.grammar.specs.Atoms.{Head}
 use Rattle.args.specs.Listed.{listed, amount}
-use Rattle.matching.specs.Every.{every}
+use Rattle.std.specs.List.{list_all}
 use Rattle.matching.specs.Terms.{equal, operand_value}
 
 -- name and count of a head and a fact agree
@@ -60,4 +60,4 @@ bound hs fs = cond (all_fit hs fs) (bind_all unbound (met hs fs)) unbound
 
 -- every operand means the number that it meets
 abbrev pub agree : List ℤ → List Met → Bool
-agree values ms = every (λ (m : Met). equal (operand_value values m.operand) m.number) ms
+agree values ms = list_all (λ (m : Met). equal (operand_value values m.operand) m.number) ms

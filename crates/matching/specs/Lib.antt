@@ -1,6 +1,5 @@
 pub mod Applying
 pub mod Conditions
-pub mod Every
 pub mod Heads
 pub mod Rewriting
 pub mod Terms

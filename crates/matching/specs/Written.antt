@@ -1,6 +1,6 @@
 -- A written fact as it is handed out.
 use Rattle.std.specs.Prelude.{ℕ, ◌≤◌, List, length, ℤ, ◌≤ℤ◌, Some, None, Option}
-use Rattle.facts.specs.declared.fact.ReadFact.{ReadFact}
+use Rattle.facts.specs.Meanings.{ReadFact}
 use Rattle.facts.specs.Lists.{Nth}
 use Rattle.facts.specs.Meanings.{Meaning, read_meaning}
 

@@ -1,106 +1,62 @@
-ghost use Rattle.std.specs.Prelude.{◌≡◌, true, [], ◌∷◌, map};
+ghost use Rattle.std.specs.Prelude.{◌≡◌, map, is_some, MatchOption};
+ghost use Rattle.std.specs.Iterator.{AlwaysYields};
+ghost use Rattle.std.specs.Iterator.Adapters.{chain_steps};
+ghost use Rattle.std.specs.Slice.Iter.{iter_steps};
 ghost use Rattle.facts.specs.Meanings.{read_meaning};
-ghost use Rattle.args.specs.Listed.{listed, amount};
-ghost use Rattle.matching.specs.Heads.{fits_head, all_fit, met, met_args, bind_one, bind_all, agree};
+ghost use Rattle.grammar.specs.Parts.{parts};
+ghost use Rattle.matching.specs.Heads.{fits_head, met, unbound, agree};
+ghost use Rattle.matching.specs.Applying.{heads, values, heads_fit};
 
-use crate::terms::operand_value;
+use crate::values::Values;
 use facts::ReadFact;
-use grammar::{Args, Head, Operand};
-
-// How many arguments there are.
-pub fn amount_of<T: Copy>(args: &Args<T>) -> u8
-    ensures { result ≡ amount args.now }
-{
-    match args {
-        Args::Zero => 0,
-        Args::One(_) => 1,
-        Args::Two(_, _) => 2,
-        Args::Three(_, _, _) => 3,
-    }
-}
+use grammar::{Head, Rule};
+use std::iter::Chain;
+use std::slice::Iter;
 
 // Whether name and count agree.
-pub fn head_fits(head: &Head, fact: &ReadFact) -> bool
+pub(crate) fn head_fits(head: &Head, fact: &ReadFact) -> bool
     ensures { result ≡ fits_head head.now (read_meaning fact.now) }
 {
-    head.name == fact.name && amount_of(&head.args) == fact.count
+    head.name == fact.name && head.args.len() == usize::from(fact.count)
 }
 
-fn bind_operand(values: &mut [i32], operand: Operand, number: i32)
-    ensures { values.new ≡ bind_one values.old operand number }
+// The heads by position: those kept, then those taken.
+pub(crate) fn heads(rule: &Rule) -> Chain<Iter<'_, Head>, Iter<'_, Head>>
+    ensures { AlwaysYields (chain_steps iter_steps iter_steps) (λ h. h.now) result (heads (parts rule.now)) }
 {
-    if let Operand::Var(v) = operand {
-        let index = v as usize;
-        if index < values.len() {
-            values[index] = number;
-        }
-    }
+    rule.kept.iter().chain(rule.taken.iter())
 }
 
-// Gives each variable of the head the number that it meets.
-fn bind_head(values: &mut [i32], args: Args<Operand>, numbers: (i32, i32, i32))
-    ensures { values.new ≡ bind_all values.old (met_args (listed args) (numbers.0 ∷ (numbers.1 ∷ (numbers.2 ∷ [])))) }
+// Whether there is a fact for each head, of its name and count.
+fn heads_fit(rule: &Rule, facts: &[ReadFact]) -> bool
+    ensures { result ≡ heads_fit (parts rule.now) (map read_meaning facts.now) }
 {
-    match args {
-        Args::Zero => {}
-        Args::One(a) => bind_operand(values, a, numbers.0),
-        Args::Two(a, b) => {
-            bind_operand(values, a, numbers.0);
-            bind_operand(values, b, numbers.1);
-        }
-        Args::Three(a, b, c) => {
-            bind_operand(values, a, numbers.0);
-            bind_operand(values, b, numbers.1);
-            bind_operand(values, c, numbers.2);
-        }
-    }
+    facts.len() == rule.kept.len() + rule.taken.len()
+        && heads(rule)
+            .zip(facts)
+            .all(|(head, fact)| head_fits(head, fact))
 }
 
-// Whether each operand of the head means the number that it meets.
-fn head_agrees(args: Args<Operand>, numbers: (i32, i32, i32), values: &[i32]) -> bool
-    ensures { result ≡ agree values.now (met_args (listed args) (numbers.0 ∷ (numbers.1 ∷ (numbers.2 ∷ [])))) }
+// What the variables mean by facts that fit; none where some fact does not fit.
+pub(crate) fn bound(rule: &Rule, facts: &[ReadFact]) -> Option<Values>
+    ensures fit { is_some result ≡ heads_fit (parts rule.now) (map read_meaning facts.now) }
+    ensures numbers { MatchOption result (values (parts rule.now) (map read_meaning facts.now) ≡ unbound) (λ v. v.numbers ≡ values (parts rule.now) (map read_meaning facts.now)) }
 {
-    match args {
-        Args::Zero => true,
-        Args::One(a) => operand_value(a, values) == numbers.0,
-        Args::Two(a, b) => {
-            operand_value(a, values) == numbers.0 && operand_value(b, values) == numbers.1
-        }
-        Args::Three(a, b, c) => {
-            operand_value(a, values) == numbers.0
-                && operand_value(b, values) == numbers.1
-                && operand_value(c, values) == numbers.2
-        }
+    if !heads_fit(rule, facts) {
+        return None;
     }
-}
-
-// Gives each variable of the heads the number that it meets, as long as heads and facts fit; whether all of them do.
-pub fn bind_heads(heads: &[Head], facts: &[ReadFact], values: &mut [i32]) -> bool
-    ensures fit { result ≡ all_fit heads.now (map read_meaning facts.now) }
-    ensures bound { result ≡ true → values.new ≡ bind_all values.old (met heads.now (map read_meaning facts.now)) }
-{
-    if heads.len() != facts.len() {
-        return false;
-    }
-    for (i, head) in heads.iter().enumerate() {
-        let fact = &facts[i];
-        if !head_fits(head, fact) {
-            return false;
-        }
-        bind_head(values, head.args, fact.args);
-    }
-    true
+    let values = heads(rule).zip(facts).fold(
+        Values::unbound(),
+        |values, (head, fact)| values.bind(head, fact),
+    );
+    Some(values)
 }
 
 // Whether each operand of the heads means the number that it meets.
-pub fn heads_agree(heads: &[Head], facts: &[ReadFact], values: &[i32]) -> bool
-    requires { all_fit heads.now (map read_meaning facts.now) ≡ true }
-    ensures { result ≡ agree values.now (met heads.now (map read_meaning facts.now)) }
+pub(crate) fn agree(rule: &Rule, facts: &[ReadFact], values: &Values) -> bool
+    ensures { result ≡ agree values.now.numbers (met (heads (parts rule.now)) (map read_meaning facts.now)) }
 {
-    for (i, head) in heads.iter().enumerate() {
-        if !head_agrees(head.args, facts[i].args, values) {
-            return false;
-        }
-    }
-    true
+    heads(rule)
+        .zip(facts)
+        .all(|(head, fact)| values.agree(head, fact))
 }

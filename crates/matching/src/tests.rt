@@ -1,12 +1,18 @@
-use crate::{Verdict, body_count, body_fact, head_fits_at, judge};
+use crate::{Ends, Verdict, body_count, body_fact, head_fits_at, judge};
+use arrayvec::ArrayVec;
 use facts::ReadFact;
-use grammar::{Args, BodyFact, Guard, Head, Operand, Rule, Term, Test};
-use std::alloc::{AllocError, Global};
+use grammar::{Args, Atom, Guard, Head, Operand, Rule, Term, Test};
+use std::fmt::Debug;
 use std::test::Fail;
 
 const LOW: i32 = -134_217_728;
 
 const HIGH: i32 = 134_217_727;
+
+const ENDS: Ends = Ends {
+    low: LOW,
+    high: HIGH,
+};
 
 const A: Operand = Operand::Var(0);
 
@@ -14,94 +20,68 @@ const B: Operand = Operand::Var(1);
 
 const C: Operand = Operand::Var(2);
 
+fn fact(name: u8, count: u8, args: (i32, i32, i32)) -> ReadFact {
+    ReadFact { name, count, args }
+}
+
 fn fill(channel: i32, time: i32) -> ReadFact {
-    ReadFact {
-        name: 1,
-        count: 2,
-        args: (channel, time, 77),
+    fact(1, 2, (channel, time, 77))
+}
+
+fn pair(a: i32, b: i32) -> ReadFact {
+    fact(2, 2, (a, b, LOW))
+}
+
+// A head with two operands.
+fn head(name: u8, first: Operand, second: Operand) -> Head {
+    Atom {
+        name,
+        args: Args::Two(first, second),
     }
 }
 
+// One part of a rule.
+fn one<T: Copy + Default + Debug, const N: usize>(part: T) -> Result<ArrayVec<T, N>, Fail> {
+    let mut parts = ArrayVec::new();
+    parts.try_push(part)?;
+    Ok(parts)
+}
+
 // Kept fill(C, A), taken fill(C, B), A at most B.
-fn rule_seven(heap: Global) -> Result<Rule, AllocError> {
-    let kept = vec![in heap;
-        Head {
-            name: 1,
-            args: Args::Two(C, A)
-        },
-    ]?;
-    let taken = vec![in heap;
-        Head {
-            name: 1,
-            args: Args::Two(C, B)
-        },
-    ]?;
-    let guards = vec![in heap;
-        Guard {
-            test: Test::AtMost,
-            left: Term::One(A),
-            right: Term::One(B)
-        },
-    ]?;
+fn rule_seven() -> Result<Rule, Fail> {
     Ok(Rule {
         label: 7,
-        kept,
-        taken,
-        guards,
-        body: Vec::new(heap),
+        kept: one(head(1, C, A))?,
+        taken: one(head(1, C, B))?,
+        guards: one(Guard {
+            test: Test::AtMost,
+            left: Term::One(A),
+            right: Term::One(B),
+        })?,
+        body: ArrayVec::new(),
     })
 }
 
 // Taken pair(A, B), under a guard, to late(the term).
-fn pair_rule(heap: Global, guard: Guard, term: Term) -> Result<Rule, AllocError> {
-    let taken = vec![in heap;
-        Head {
-            name: 2,
-            args: Args::Two(A, B)
-        },
-    ]?;
-    let guards = vec![in heap; guard]?;
-    let body = vec![in heap;
-        BodyFact {
-            name: 9,
-            args: Args::One(term)
-        },
-    ]?;
+fn pair_rule(guard: Guard, term: Term) -> Result<Rule, Fail> {
     Ok(Rule {
         label: 8,
-        kept: Vec::new(heap),
-        taken,
-        guards,
-        body,
+        kept: ArrayVec::new(),
+        taken: one(head(2, A, B))?,
+        guards: one(guard)?,
+        body: one(Atom {
+            name: 9,
+            args: Args::One(term),
+        })?,
     })
-}
-
-fn pair(a: i32, b: i32) -> ReadFact {
-    ReadFact {
-        name: 2,
-        count: 2,
-        args: (a, b, LOW),
-    }
 }
 
 #[test]
 fn chosen_facts(rt: HostRuntime) -> Result<(), Fail> {
-    let rule = rule_seven(rt.alloc())?;
-    let junk = ReadFact {
-        name: 1,
-        count: 2,
-        args: (3, 84, i32::MIN),
-    };
-    let named = ReadFact {
-        name: 2,
-        count: 2,
-        args: (3, 84, 77),
-    };
-    let counted = ReadFact {
-        name: 1,
-        count: 3,
-        args: (3, 90, 77),
-    };
+    let rule = rule_seven()?;
+    let junk = fact(1, 2, (3, 84, i32::MIN));
+    let named = fact(2, 2, (3, 84, 77));
+    let counted = fact(1, 3, (3, 90, 77));
     let rows = [
         (fill(3, 84), fill(3, 90), Verdict::Applies),
         (fill(3, 84), fill(3, 84), Verdict::Applies),
@@ -112,30 +92,22 @@ fn chosen_facts(rt: HostRuntime) -> Result<(), Fail> {
         (fill(3, 84), counted, Verdict::NoMatch),
     ];
     for (first, second, verdict) in rows {
-        assert_eq!(rt; judge(&rule, &[first, second], LOW, HIGH), verdict);
+        assert_eq!(rt; judge(&rule, &[first, second], ENDS), verdict);
     }
-    assert_eq!(rt; judge(&rule, &[fill(3, 84)], LOW, HIGH), Verdict::NoMatch);
-    assert_eq!(rt;
-        judge(&rule, &[fill(3, 84); 3], LOW, HIGH),
-        Verdict::NoMatch
-    );
+    assert_eq!(rt; judge(&rule, &[fill(3, 84)], ENDS), Verdict::NoMatch);
+    assert_eq!(rt; judge(&rule, &[fill(3, 84); 3], ENDS), Verdict::NoMatch);
     Ok(())
 }
 
 #[test]
 fn positions(rt: HostRuntime) -> Result<(), Fail> {
-    let rule = rule_seven(rt.alloc())?;
-    let long = ReadFact {
-        name: 1,
-        count: 4,
-        args: (1, 2, 3),
-    };
+    let rule = rule_seven()?;
     let rows = [
         (0, fill(1, 2), true),
         (1, fill(1, 2), true),
         (2, fill(1, 2), false),
         (0, pair(1, 2), false),
-        (1, long, false),
+        (1, fact(1, 4, (1, 2, 3)), false),
     ];
     for (position, fact, fits) in rows {
         assert_eq!(rt; head_fits_at(&rule, position, &fact), fits);
@@ -164,8 +136,8 @@ fn guards(rt: HostRuntime) -> Result<(), Fail> {
             left: Term::Sum(A, A),
             right: Term::Diff(B, Operand::Const(1)),
         };
-        let rule = pair_rule(rt.alloc(), guard, Term::One(A))?;
-        assert_eq!(rt; judge(&rule, &[fact], LOW, HIGH), verdict);
+        let rule = pair_rule(guard, Term::One(A))?;
+        assert_eq!(rt; judge(&rule, &[fact], ENDS), verdict);
     }
     Ok(())
 }
@@ -188,15 +160,30 @@ fn body_values(rt: HostRuntime) -> Result<(), Fail> {
         right: Term::One(A),
     };
     for (term, number, verdict, written) in rows {
-        let rule = pair_rule(rt.alloc(), always, term)?;
+        let rule = pair_rule(always, term)?;
         let chosen = [pair(number, 0)];
-        assert_eq!(rt; judge(&rule, &chosen, LOW, HIGH), verdict);
-        let fact = body_fact(&rule, &chosen, LOW, HIGH, 0).ok_or("no fact")?;
+        assert_eq!(rt; judge(&rule, &chosen, ENDS), verdict);
+        let fact = body_fact(&rule, &chosen, ENDS, 0).ok_or("no fact")?;
         assert_eq!(rt; (fact.name, fact.count, fact.args.0), (9, 1, written));
         assert_eq!(rt; body_count(&rule), 1);
-        assert!(rt; body_fact(&rule, &chosen, LOW, HIGH, 1).is_none());
+        assert!(rt; body_fact(&rule, &chosen, ENDS, 1).is_none());
     }
     Ok(())
+}
+
+#[test]
+fn ends(rt: HostRuntime) {
+    let rows = [
+        (i64::from(LOW) - 1, false, LOW),
+        (i64::from(LOW), true, LOW),
+        (5, true, 5),
+        (i64::from(HIGH), true, HIGH),
+        (i64::from(HIGH) + 1, false, HIGH),
+    ];
+    for (number, held, nearest) in rows {
+        assert_eq!(rt; ENDS.hold(number), held);
+        assert_eq!(rt; ENDS.nearest(number), nearest);
+    }
 }
 
 #[test]
@@ -216,22 +203,14 @@ fn operands(rt: HostRuntime) -> Result<(), Fail> {
         ),
     ];
     for (first, second, fact, verdict) in rows {
-        let heap = rt.alloc();
-        let taken = vec![in heap;
-            Head {
-                name: 2,
-                args: Args::Two(first, second)
-            },
-        ]?;
-        let kept = Vec::new(heap);
         let rule = Rule {
             label: 9,
-            kept,
-            taken,
-            guards: Vec::new(heap),
-            body: Vec::new(heap),
+            kept: ArrayVec::new(),
+            taken: one(head(2, first, second))?,
+            guards: ArrayVec::new(),
+            body: ArrayVec::new(),
         };
-        assert_eq!(rt; judge(&rule, &[fact], LOW, HIGH), verdict);
+        assert_eq!(rt; judge(&rule, &[fact], ENDS), verdict);
     }
     Ok(())
 }
