@@ -1,5 +1,6 @@
 -- What was read is what the loader promises.
 use Rattle.std.proofs.Common.{◌≡◌, ℕ, zero, suc, ◌-◌, ◌<◌, ◌≤◌, false, List, [], ◌∷◌, ◌++◌, length, take, Err, sym, ap, ◌∙◌, subst, arith, length-append}
+use Rattle.std.specs.List.{AllByRecursion}
 use Rattle.facts.specs.Lists.{Nth}
 use Rattle.grammar.specs.declared.reason.Reason.{Reason}
 use Rattle.grammar.specs.declared.reason.Reason.TheVariants.{OutOfTurn as TurnReason, StrayBit as BitReason, OutOfRange as RangeReason}
@@ -13,11 +14,8 @@ use Rattle.grammar.proofs.Law.{faulty}
 use Rattle.rules.specs.declared.refusal.LoadFault.{LoadFault}
 use Rattle.rules.specs.declared.refusal.LoadFault.TheVariants.{OutOfTurn, StrayBit, OutOfRange, Unbound, NoTaken, Label}
 use Rattle.rules.specs.Faults.{RuleFault, FirstFault}
-use Rattle.rules.specs.declared.refusal.LoadError.{LoadError}
-use Rattle.rules.specs.declared.refusal.LoadError.TheVariants.{Refused as Refusing, Memory}
-use Rattle.rules.specs.declared.fault.ReadError.{ReadError}
-use Rattle.rules.specs.declared.fault.ReadError.TheVariants.{Word, Memory as NoMemory}
-use Rattle.rules.specs.Progress.{Refused}
+use Rattle.rules.specs.declared.refusal.Refusal.{Refusal}
+use Rattle.rules.specs.declared.fault.Fault.{Fault}
 use Rattle.rules.specs.Loading.{fault_of, Wrong, Told, Loads, Accepts}
 use Rattle.facts.proofs.Nths.{all_nth}
 
@@ -35,21 +33,16 @@ module _ (ws : List ℕ) (r : Reason) (n : ℕ) (h : read_table standard ws ≡ 
   word_accepts rs us v e = (faulty ws r n h).1.none (rs, us, v.formed, e)
 
 -- the loader's refusal is the reader's
-pub refused_loads : (ws : List ℕ) (e : ReadError) (x : LoadError) → Refused (read_table standard ws) e → Told ws e x → Loads ws (Err x)
-refused_loads ws (Word f) (Refusing x) h t = (
-  subst (λ (fault : LoadFault). Wrong ws fault x.place) (sym t.0)
-      (subst (λ (n : ℕ). Wrong ws (fault_of f.reason) n) (sym t.1) (word_wrong ws f.reason f.left h)),
-  t.2,
-)
-refused_loads ws (Word f) Memory h t = absurd t
-refused_loads ws NoMemory (Refusing x) h t = absurd t
-refused_loads ws NoMemory Memory h t = tt
+module _ (ws : List ℕ) (f : Fault) (x : Refusal) (h : read_table standard ws ≡ no f.reason f.left) where
+  pub refused_loads : Told ws f x → Loads ws (Err x)
+  refused_loads t = (
+    subst (λ (fault : LoadFault). Wrong ws fault x.place) (sym t.0)
+        (subst (λ (n : ℕ). Wrong ws (fault_of f.reason) n) (sym t.1) (word_wrong ws f.reason f.left h)),
+    t.2,
+  )
 
-pub refused_accepts : (ws : List ℕ) (e : ReadError) (x : LoadError) → Refused (read_table standard ws) e → Told ws e x → Accepts ws (Err x)
-refused_accepts ws (Word f) (Refusing x) h t = word_accepts ws f.reason f.left h
-refused_accepts ws (Word f) Memory h t = absurd t
-refused_accepts ws NoMemory (Refusing x) h t = absurd t
-refused_accepts ws NoMemory Memory h t = λ rs us v e. tt
+  pub refused_accepts : Accepts ws (Err x)
+  refused_accepts = word_accepts ws f.reason f.left h
 
 rising_at : (n : ℕ) (rs : List Parts) (i : ℕ) (r : Parts) → Rising n rs → Nth rs i r → last_label n (take i rs) < r.label
 rising_at n [] i r h k = absurd k
@@ -81,6 +74,10 @@ module _ (ws : List ℕ) (qs : List Parts) (vs : List ℕ) (h : read_table stand
 
   pub table_used : length ws - length vs ≡ length (written qs)
   table_used = omega (arith, ap length table_words, length-append (written qs) vs)
+
+  -- no rule has a fault
+  pub table_valid : AllByRecursion Sound qs × Rising 0 qs → Valid qs
+  table_valid s = record { formed = table_formed; sound = s.0; rising = s.1 }
 
   -- words are the writing of one table at most
   pub table_same : (rs : List Parts) (us : List ℕ) → Valid rs → ws ≡ written rs ++ us → qs ≡ rs

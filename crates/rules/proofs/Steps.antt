@@ -12,9 +12,7 @@ use Rattle.grammar.specs.declared.part.Guard.{Guard}
 use Rattle.grammar.specs.Reading.{Parsed, ok, no, then, read_operand, read_term, read_args, test_at, read_head, read_guard, read_body, read_parts, read_rule, read_rules}
 use Rattle.grammar.specs.Parts.{Parts}
 use Rattle.grammar.specs.Writing.{standard}
-use Rattle.rules.specs.declared.fault.ReadError.{ReadError}
-use Rattle.rules.specs.declared.fault.ReadError.TheVariants.{Word, Memory}
-use Rattle.rules.specs.Progress.{front, Refused}
+use Rattle.rules.specs.Progress.{front}
 
 small : (n count : ℕ) → count ≡ count_in n → count ≤ 3 → ltb 3 (count_in n) ≡ false
 small n count e h = grind (arith, nat_tests)
@@ -72,15 +70,9 @@ pub front_at : {A : Type 0} (xs : List A) (p q : Parsed (List A)) → xs ≡ [] 
 front_at {A} xs (ok ys us) q e f = sym (ap (λ (zs : List A). ok (zs ++ ys) us) e) ∙ f
 front_at xs (no r n) q e f = f
 
-pub refused_at : {A : Type 0} (xs : List A) (p : Parsed (List A)) (y : ReadError) → xs ≡ [] → Refused (front xs p) y → Refused p y
-refused_at {A} xs (ok ys us) (Word f) e h = absurd (let z : ◌≡◌ {A = ℕ} 0 1 = cc in omega arith)
-refused_at xs (no r n) (Word f) e h = h
-refused_at xs p Memory e h = tt
-
--- a refusal of a part is one of the whole
-pub refused_then : {A B : Type 0} (p : Parsed A) (q : Parsed B) (y : ReadError) → ((r : Reason) (n : ℕ) → p ≡ no r n → q ≡ no r n) → Refused p y → Refused q y
-refused_then p q (Word f) g h = g f.reason f.left h
-refused_then p q Memory g h = tt
+pub front_no : {A : Type 0} (xs : List A) (p : Parsed (List A)) (r : Reason) (n : ℕ) → front xs p ≡ no r n → p ≡ no r n
+front_no {A} xs (ok ys us) r n h = absurd (let z : ◌≡◌ {A = ℕ} 0 1 = cc in omega arith)
+front_no xs (no q m) r n h = h
 
 -- a rule, part after part
 module _ (label : ℕ) (ws : List ℕ) (ks : List Head) (us : List ℕ) (h1 : read_parts read_head 2 3 ws ≡ ok ks us)

@@ -1,5 +1,6 @@
-ghost use Rattle.std.specs.Prelude.{◌≡◌, ℕ, ◌+◌, ◌-◌, ◌*◌, ◌/◌, ◌%◌, ◌^◌, ◌<◌, ◌≤◌, true, false, List, [], ◌∷◌, ◌++◌, map, length, take, vec_len, sum_by, MatchOption, slice_index};
+ghost use Rattle.std.specs.Prelude.{◌≡◌, ℕ, ◌+◌, ◌-◌, ◌*◌, ◌/◌, ◌%◌, ◌^◌, ◌<◌, ◌≤◌, true, false, List, [], ◌∷◌, ◌++◌, map, length, take, sum_by, MatchOption, slice_index};
 ghost use Rattle.std.specs.List.{AllByRecursion};
+ghost use Rattle.arrayvec.specs.ArrayVec.{array_vec_len};
 ghost use Rattle.grammar.specs.Parts.{parts};
 ghost use Rattle.grammar.specs.Sizes.{heads_size, rule_size};
 ghost use Rattle.grammar.specs.Validity.{some, is_var, head_has, binds, free, Sound, Rising};
@@ -12,16 +13,11 @@ use grammar::{Args, Head, Operand, Rule};
 use words::{Kind, Word};
 
 // How many words a few parts are written as.
-pub(crate) fn total_size<P: Part>(items: &Vec<P>) -> usize
-    requires { vec_len items.now ≤ 4 }
-    ensures value { result ≡ sum_by P.Part.words items.now.items }
-    ensures bound { result ≤ 40 }
+pub(crate) fn total_size<P: Part>(items: &[P]) -> usize
+    requires { length items.now ≤ 4 }
+    ensures { result ≡ sum_by P.Part.words items.now }
 {
-    let mut total = 0;
-    for item in items.iter() {
-        total += item.size();
-    }
-    total
+    items.iter().map(|item| item.size()).sum()
 }
 
 fn is_variable(operand: Operand, variable: u32) -> bool
@@ -46,29 +42,21 @@ fn head_has(head: Head, variable: u32) -> bool
     }
 }
 
-fn some_has(heads: &Vec<Head>, variable: u32) -> bool
-    ensures { result ≡ some (head_has variable) heads.now.items }
-{
-    for head in heads.iter() {
-        if head_has(*head, variable) {
-            return true;
-        }
-    }
-    false
-}
-
 // Whether a variable stands in a head of the rule.
 pub(crate) fn is_bound(rule: &Rule, variable: u32) -> bool
     ensures { result ≡ binds (parts rule.now) variable }
 {
-    some_has(&rule.kept, variable) || some_has(&rule.taken, variable)
+    rule.kept
+        .iter()
+        .chain(rule.taken.iter())
+        .any(|head| head_has(*head, variable))
 }
 
 // Whether a word is a VAR word whose variable stands in no head of the rule.
 fn is_free(rule: &Rule, bits: u32) -> bool
     ensures { result ≡ free (parts rule.now) bits }
 {
-    let word = Word::read(bits);
+    let word = Word::from(bits);
     word.is(Kind::Var) && !is_bound(rule, word.payload)
 }
 
@@ -96,7 +84,7 @@ fn heads_size(rule: &Rule) -> usize
 // How many words a well-formed rule is written as.
 fn rule_size(rule: &Rule) -> usize
     requires { FormedRule standard (parts rule.now) }
-    ensures value { result ≡ rule_size (parts rule.now) }
+    ensures { result ≡ rule_size (parts rule.now) }
 {
     heads_size(rule) + total_size(&rule.guards) + total_size(&rule.body)
 }
@@ -121,10 +109,10 @@ fn rule_fault(rule: &Rule, last: u16, ws: &[u32]) -> Option<(LoadFault, usize)>
 }
 
 // The first fault of the rules of a well-formed table and its place in the table's words.
-pub(crate) fn first_fault(rules: &Vec<Rule>, ws: &[u32]) -> Option<(LoadFault, usize)>
-    requires formed { Formed standard (map parts rules.now.items) }
-    requires begins { (us : List ℕ) × (ws.now ≡ written (map parts rules.now.items) ++ us) }
-    ensures { MatchOption result (AllByRecursion Sound (map parts rules.now.items) × Rising 0 (map parts rules.now.items)) (λ x. FirstFault (map parts rules.now.items) x.0 x.1) }
+pub(crate) fn first_fault(rules: &[Rule], ws: &[u32]) -> Option<(LoadFault, usize)>
+    requires formed { Formed standard (map parts rules.now) }
+    requires begins { (us : List ℕ) × (ws.now ≡ written (map parts rules.now) ++ us) }
+    ensures { MatchOption result (AllByRecursion Sound (map parts rules.now) × Rising 0 (map parts rules.now)) (λ x. FirstFault (map parts rules.now) x.0 x.1) }
 {
     let mut at = 0;
     let mut last = 0;

@@ -5,12 +5,12 @@ ghost use Rattle.grammar.specs.Validity.{Valid};
 ghost use Rattle.rules.specs.Loading.{rules_of, fault_of, Told, Loads, Accepts};
 
 use crate::check::first_fault;
-use crate::fault::ReadError;
-use crate::refusal::{LoadError, LoadFault, Refusal};
+use crate::fault::Fault;
+use crate::refusal::{LoadFault, Refusal};
 use crate::rule::read_rules;
 use crate::table::Table;
+use arrayvec::ArrayVec;
 use grammar::{Reason, Rule};
-use std::alloc::Global;
 use words::{Kind, Word};
 
 const MOST_RULES: usize = 32;
@@ -24,8 +24,8 @@ pub struct Loaded {
 
 impl Table {
     // The rules, in table order.
-    pub fn rules(&self) -> &Vec<Rule>
-        ensures same { result.now ≡ self.now.rules }
+    pub fn rules(&self) -> &[Rule]
+        ensures same { result.now ≡ self.now.rules.items }
         ensures valid { ∥ Valid (rules_of self.now) ∥₁ }
     {
         &self.rules
@@ -36,18 +36,16 @@ impl Table {
 fn count_rules(ws: &[u32]) -> usize
     ensures { result ≡ count_by (λ w. nat_eq (kind_of w) 1) ws.now }
 {
-    let mut count = 0;
-    for word in ws {
-        if Word::read(*word).is(Kind::Rule) {
-            count += 1;
-        }
-    }
-    count
+    ws.iter()
+        .filter(|word| Word::from(**word).is(Kind::Rule))
+        .count()
 }
 
 // A refusal at a place, with the RULE words up to it and with it.
 fn refusal(fault: LoadFault, place: usize, ws: &[u32]) -> Refusal
-    ensures { (result.fault ≡ fault) × (result.place ≡ place) × (result.rules ≡ rule_words_to ws.now place) }
+    ensures fault { result.fault ≡ fault }
+    ensures place { result.place ≡ place }
+    ensures rules { result.rules ≡ rule_words_to ws.now place }
 {
     let rules = if place < ws.len() {
         count_rules(&ws[0..place + 1])
@@ -71,30 +69,25 @@ fn fault_of(reason: Reason) -> LoadFault
     }
 }
 
-fn load_error(error: ReadError, ws: &[u32]) -> LoadError
-    ensures { Told ws.now error result }
+fn told(fault: Fault, ws: &[u32]) -> Refusal
+    ensures { Told ws.now fault result }
 {
-    match error {
-        ReadError::Word(fault) => {
-            let place = ws.len().saturating_sub(fault.left);
-            LoadError::Refused(refusal(fault_of(fault.reason), place, ws))
-        }
-        ReadError::Memory => LoadError::Memory,
-    }
+    let place = ws.len().saturating_sub(fault.left);
+    refusal(fault_of(fault.reason), place, ws)
 }
 
 // Loads the table that the words begin with.
-pub fn load(heap: Global, words: &[u32]) -> Result<Loaded, LoadError>
+pub fn load(words: &[u32]) -> Result<Loaded, Refusal>
     ensures loads { Loads words.now result }
     ensures accepts { Accepts words.now result }
 {
-    let mut rules = Vec::new(heap);
-    let rest = match read_rules(&mut rules, heap, MOST_RULES, words) {
+    let mut rules = ArrayVec::new();
+    let rest = match read_rules(&mut rules, MOST_RULES, words) {
         Ok(rest) => rest,
-        Err(error) => return Err(load_error(error, words)),
+        Err(fault) => return Err(told(fault, words)),
     };
     if let Some((fault, place)) = first_fault(&rules, words) {
-        return Err(LoadError::Refused(refusal(fault, place, words)));
+        return Err(refusal(fault, place, words));
     }
     Ok(Loaded {
         table: Table { rules },

@@ -27,7 +27,7 @@ pub(crate) fn read_operand(ws: &[u32]) -> Result<(Operand, &[u32]), Fault>
             left,
         });
     };
-    let word = Word::read(first);
+    let word = Word::from(first);
     match word.kind {
         Kind::Var => {
             if !word.is_clean() {
@@ -80,7 +80,7 @@ pub(crate) fn read_term(ws: &[u32]) -> Result<(Term, &[u32]), Fault>
             left,
         });
     };
-    let word = Word::read(first);
+    let word = Word::from(first);
     match word.kind {
         Kind::Sum => {
             if !word.is_clean() {

@@ -19,9 +19,3 @@ pub struct Refusal {
     pub place: usize,
     pub rules: usize,
 }
-
-#[derive(Clone, Copy, PartialEq, Debug)]
-pub enum LoadError {
-    Refused(Refusal),
-    Memory,
-}

@@ -1,4 +1,4 @@
-use Rattle.std.proofs.Common.{◌≡◌, ℕ, ◌<◌, false, List, length, vec_items, refl, subst, arith}
+use Rattle.std.proofs.Common.{◌≡◌, ℕ, ◌<◌, false, List, length, refl, subst, arith}
 use Rattle.std.specs.List.{AllByRecursion}
 use Rattle.std.proofs.lemmas.Bool.Decides.{nat_tests}
 use Rattle.grammar.specs.Parts.{parts}
@@ -29,8 +29,7 @@ returns-then-is_empty c =
     (tail_slice (parts c.args.rule.now) c.args.ws.now c.heads_size-heads.result c.requires.words c.heads_size-heads.ensures.value)
     c.in_default.ensures in
     let e = c.if-is_empty.ensures in
-    let l = c.args.rule.now.taken.ok.0 in
-    let z : length (vec_items c.args.rule.now.taken) ≡ 0 = grind (arith, nat_tests) in
+    let z : length c.args.rule.now.taken.items ≡ 0 = grind (arith, nat_tests) in
     (b, z, refl)
 
 pub returns-then-rule-last : goal.returns-then-rule-last
@@ -40,8 +39,7 @@ returns-then-rule-last c =
     (tail_slice (parts c.args.rule.now) c.args.ws.now c.heads_size-heads.result c.requires.words c.heads_size-heads.ensures.value)
     c.in_default.ensures in
     let e = c.if-is_empty.ensures in
-    let l = c.args.rule.now.taken.ok.0 in
-    let z : 0 < length (vec_items c.args.rule.now.taken) = grind (arith, nat_tests) in
+    let z : 0 < length c.args.rule.now.taken.items = grind (arith, nat_tests) in
     (record { bound = b; takes = z }, c.if-rule-last.true, refl)
 
 pub returns : goal.returns
@@ -51,6 +49,5 @@ returns c =
     (tail_slice (parts c.args.rule.now) c.args.ws.now c.heads_size-heads.result c.requires.words c.heads_size-heads.ensures.value)
     c.in_default.ensures in
     let e = c.if-is_empty.ensures in
-    let l = c.args.rule.now.taken.ok.0 in
-    let z : 0 < length (vec_items c.args.rule.now.taken) = grind (arith, nat_tests) in
+    let z : 0 < length c.args.rule.now.taken.items = grind (arith, nat_tests) in
     (record { bound = b; takes = z }, c.if-rule-last.false)
