@@ -6,7 +6,7 @@ ghost use Rattle.grammar.specs.Reading.{ok, no, read_rule, read_rules};
 ghost use Rattle.rules.specs.Progress.{front};
 
 use crate::fault::Fault;
-use crate::parts::read_more;
+use crate::parts::read_parts;
 use crate::read::first_rest;
 use arrayvec::ArrayVec;
 use grammar::{Reason, Rule};
@@ -22,20 +22,16 @@ const MOST_BODY: usize = 3;
 pub(crate) fn read_rule(label: u16, ws: &[u32]) -> Result<(Rule, &[u32]), Fault>
     ensures { MatchResult result (λ x. read_rule standard label ws.now ≡ ok (parts x.0) x.1.now) (λ e. read_rule standard label ws.now ≡ no e.reason e.left) }
 {
-    let mut kept = ArrayVec::new();
-    let rest = read_more(&mut kept, Kind::Kept, MOST_HEADS, ws)?;
-    let mut taken = ArrayVec::new();
-    let rest = read_more(&mut taken, Kind::Taken, MOST_HEADS - kept.len(), rest)?;
+    let (kept, rest) = read_parts(Kind::Kept, MOST_HEADS, ws)?;
+    let (taken, rest) = read_parts(Kind::Taken, MOST_HEADS - kept.len(), rest)?;
     if kept.len() + taken.len() == 0 {
         return Err(Fault {
             reason: Reason::OutOfTurn,
             left: rest.len(),
         });
     }
-    let mut guards = ArrayVec::new();
-    let rest = read_more(&mut guards, Kind::Guard, MOST_GUARDS, rest)?;
-    let mut body = ArrayVec::new();
-    let rest = read_more(&mut body, Kind::Body, MOST_BODY, rest)?;
+    let (guards, rest) = read_parts(Kind::Guard, MOST_GUARDS, rest)?;
+    let (body, rest) = read_parts(Kind::Body, MOST_BODY, rest)?;
     Ok((
         Rule {
             label,
@@ -67,27 +63,12 @@ pub(crate) fn read_rules<'a>(
     let word = Word::from(first);
     match word.kind {
         Kind::End => {
-            if !word.is_clean() {
-                return Err(Fault {
-                    reason: Reason::StrayBit,
-                    left,
-                });
-            }
+            Fault::unless(word.is_clean(), Reason::StrayBit, left)?;
             Ok(after)
         }
         Kind::Rule => {
-            if !word.is_clean() {
-                return Err(Fault {
-                    reason: Reason::StrayBit,
-                    left,
-                });
-            }
-            if room == 0 {
-                return Err(Fault {
-                    reason: Reason::OutOfRange,
-                    left,
-                });
-            }
+            Fault::unless(word.is_clean(), Reason::StrayBit, left)?;
+            Fault::unless(room > 0, Reason::OutOfRange, left)?;
             let (rule, next) = read_rule(word.label(), after)?;
             rules.push(rule);
             read_rules(rules, room - 1, next)

@@ -1,4 +1,4 @@
-use Rattle.std.proofs.Common.{◌≡◌, ℕ, ◌-◌, true, List, map, sym, ap, ◌∙◌, subst, arith}
+use Rattle.std.proofs.Common.{◌≡◌, ℕ, ◌-◌, ◌<◌, true, List, map, sym, ap, ◌∙◌, subst, rules}
 use Rattle.std.proofs.lemmas.List.{map_push}
 use Rattle.std.proofs.lemmas.Result.{MatchResult-weaker}
 use Rattle.words.specs.Words.{tag, kind_of, payload_of, clean, label_in}
@@ -17,8 +17,9 @@ returns-in_ok-rule-in-Rule t c =
     let i = c.from-word.ensures.0 in
     let j = c.from-word.ensures.1 in
     let a = c.in-Rule.is in
-    let b = c.if-not-is_clean-2.false in
+    let b = c.in_ok-unless-in-Rule.ensures.passes in
     let f = c.is_clean-in-Rule.ensures in
+    let room : 0 < c.args.room = search rules in
     let k : tag c.from-word.result.kind ≡ 1 = ap tag a in
     let e : kind_of w ≡ 1 = sym i ∙ k in
     let d : clean w ≡ true = cc in
@@ -27,6 +28,6 @@ returns-in_ok-rule-in-Rule t c =
     let more
     : front (map parts c.args.rules.now.items) (read_rules standard c.args.room c.args.ws.now)
     ≡ front (map parts c.push.new.self.items) (read_rules standard (c.args.room - 1) next)
-    = rules_more c.args.room (map parts c.args.rules.now.items) c.args.ws.now w c.in-Some.after.now c.in-Some.ensures e d (omega arith) (parts rule) next r
+    = rules_more c.args.room (map parts c.args.rules.now.items) c.args.ws.now w c.in-Some.after.now c.in-Some.ensures e d room (parts rule) next r
     ∙ ap (λ (xs : List Parts). front xs (read_rules standard (c.args.room - 1) next)) (sym (ap (map parts) c.push.ensures.items ∙ map_push parts c.args.rules.now.items rule)) in
     MatchResult-weaker c.read_rules.result c.read_rules.ensures (λ x f. more ∙ f) (λ y f. more ∙ f)
