@@ -7,10 +7,13 @@ use Rattle.grammar.specs.declared.part.Atom.{Atom}
 use Rattle.grammar.specs.Reading.{Parsed, ok, no, then, read_args}
 use Rattle.rules.specs.declared.fault.Fault.{Fault}
 
--- a reader's result: the value and the words after it, or the fault
+-- a reader's result: a value, seen as what was read, and the words after it; or the fault
+abbrev pub GivesAs : {A B : Type 0} → (A → B) → Parsed B → Result (A × Bor (List ℕ)) Fault → Type 0
+GivesAs view p (Ok x) = p ≡ ok (view x.0) x.1.now
+GivesAs view p (Err fault) = p ≡ no fault.reason fault.left
+
 abbrev pub Gives : {A : Type 0} → Parsed A → Result (A × Bor (List ℕ)) Fault → Type 0
-Gives p (Ok x) = p ≡ ok x.0 x.1.now
-Gives p (Err fault) = p ≡ no fault.reason fault.left
+Gives p r = GivesAs (λ x. x) p r
 
 -- the rest of a head or a body fact, by how its arguments are read
 abbrev pub read_atom : {A : Type 0} → (List ℕ → Parsed A) → ℕ → List ℕ → Parsed (Atom A)

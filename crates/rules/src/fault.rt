@@ -1,4 +1,5 @@
 ghost use Rattle.std.specs.Prelude.{◌≡◌, true, false, OnOk, OnErr, IfErr};
+ghost use Rattle.grammar.specs.declared.reason.Reason.TheVariants.{OutOfTurn};
 
 use grammar::Reason;
 
@@ -10,6 +11,16 @@ pub(crate) struct Fault {
 }
 
 impl Fault {
+    // No word of its kind may stand there, or no word is left.
+    pub(crate) fn out_of_turn(left: usize) -> Fault
+        ensures { result ≡ record { reason = OutOfTurn; left = left } }
+    {
+        Fault {
+            reason: Reason::OutOfTurn,
+            left,
+        }
+    }
+
     // Refuses a word for this reason unless the test holds.
     pub(crate) fn unless(holds: bool, reason: Reason, left: usize) -> Result<(), Fault>
         ensures passes { OnOk result (holds ≡ true) }

@@ -2,7 +2,7 @@ ghost use Rattle.std.specs.Prelude.{◌≡◌, ℕ, ◌+◌, ◌-◌, ◌*◌, �
 ghost use Rattle.arrayvec.specs.ArrayVec.{array_vec_len};
 ghost use Rattle.words.specs.Words.{tag};
 ghost use Rattle.grammar.specs.Reading.{Parsed, ok, no, read_parts};
-ghost use Rattle.rules.specs.Progress.{front};
+ghost use Rattle.rules.specs.Progress.{GivesAs, front};
 
 use crate::fault::Fault;
 use crate::part::Part;
@@ -44,7 +44,7 @@ pub(crate) fn read_parts<P: Part + Default, const N: usize>(
     ws: &[u32],
 ) -> Result<(ArrayVec<P, N>, &[u32]), Fault>
     requires { room ≤ N }
-    ensures reads { MatchResult result (λ x. read_parts P.Part.reads (tag kind) room ws.now ≡ ok x.0.items x.1.now) (λ e. read_parts P.Part.reads (tag kind) room ws.now ≡ no e.reason e.left) }
+    ensures reads { GivesAs (λ parts. parts.items) (read_parts P.Part.reads (tag kind) room ws.now) result }
     ensures few { IfOk result (λ x. array_vec_len x.0 ≤ room) }
 {
     let mut parts = ArrayVec::new();

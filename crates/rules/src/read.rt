@@ -25,12 +25,7 @@ pub(crate) fn read_operand(ws: &[u32]) -> Result<(Operand, &[u32]), Fault>
     ensures { Gives (read_operand ws.now) result }
 {
     let left = ws.len();
-    let Some((first, rest)) = first_rest(ws) else {
-        return Err(Fault {
-            reason: Reason::OutOfTurn,
-            left,
-        });
-    };
+    let (first, rest) = first_rest(ws).ok_or(Fault::out_of_turn(left))?;
     let word = Word::from(first);
     match word.kind {
         Kind::Var => {
@@ -43,10 +38,7 @@ pub(crate) fn read_operand(ws: &[u32]) -> Result<(Operand, &[u32]), Fault>
             Fault::unless(word.is_clean(), Reason::StrayBit, left)?;
             Ok((Operand::Const(word.constant()), rest))
         }
-        _ => Err(Fault {
-            reason: Reason::OutOfTurn,
-            left,
-        }),
+        _ => Err(Fault::out_of_turn(left)),
     }
 }
 
@@ -63,12 +55,7 @@ pub(crate) fn read_term(ws: &[u32]) -> Result<(Term, &[u32]), Fault>
     ensures { Gives (read_term ws.now) result }
 {
     let left = ws.len();
-    let Some((first, rest)) = first_rest(ws) else {
-        return Err(Fault {
-            reason: Reason::OutOfTurn,
-            left,
-        });
-    };
+    let (first, rest) = first_rest(ws).ok_or(Fault::out_of_turn(left))?;
     let word = Word::from(first);
     match word.kind {
         Kind::Sum => {

@@ -17,6 +17,6 @@ pub returns-clause-bound : goal.returns-clause-bound
 returns-clause-bound c =
     let terms = YieldsList-from_first (λ x. x) (λ s. listed s.rest) {s = c.map.result.iter} (listed c.args.args) (search rules) in
     let e : c.sum.result ≡ sum_by term_size (listed c.args.args) =
-        sum_by_from_yields_List term_size (listed c.args.args) c.map.result _ c.sum.ensures.ran
-        (YieldsList-from_map {s = c.map.result} _ term_size terms c.map.ensures.closure (λ x r q k. search rules)) in
+    sum_by_from_yields_List term_size (listed c.args.args) c.map.result _ c.sum.ensures.ran
+    (YieldsList-from_map {s = c.map.result} _ term_size terms c.map.ensures.closure (λ x r q k. search rules)) in
     omega (arith, terms_few c.args.args)
