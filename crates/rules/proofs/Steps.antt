@@ -1,5 +1,5 @@
 -- What one step of the code does to what is still to be read.
-use Rattle.std.proofs.Common.{◌≡◌, ℕ, suc, ◌+◌, ◌-◌, ◌<◌, true, false, eqb, List, [], ◌∷◌, ◌++◌, length, sym, refl, ap, ◌∙◌, append_assoc, arith}
+use Rattle.std.proofs.Common.{◌≡◌, ℕ, suc, ◌+◌, ◌-◌, ◌<◌, true, false, eqb, List, [], ◌∷◌, ◌++◌, length, sym, refl, ap, ◌∙◌, append_assoc, Result, Ok, Err, Bor, arith}
 use Rattle.std.proofs.lemmas.Bool.Decides.{nat_tests}
 use Rattle.words.specs.Words.{kind_of, payload_of, clean, label_in}
 use Rattle.grammar.specs.declared.reason.Reason.{Reason}
@@ -8,11 +8,17 @@ use Rattle.grammar.specs.declared.part.Guard.{Guard}
 use Rattle.grammar.specs.Reading.{Parsed, ok, no, then, read_head, read_guard, read_body, read_parts, read_rule, read_rules}
 use Rattle.grammar.specs.Parts.{Parts}
 use Rattle.grammar.specs.Writing.{standard}
-use Rattle.rules.specs.Progress.{front}
+use Rattle.rules.specs.Progress.{front, Adds}
+use Rattle.rules.specs.declared.fault.Fault.{Fault}
 
 joined_front : {A : Type 0} (xs : List A) (a : A) (q : Parsed (List A)) → front xs (then q (λ ys us. ok (a ∷ ys) us)) ≡ front (xs ++ a ∷ []) q
 joined_front {A} xs a (ok ys us) = ap (λ (zs : List A). ok zs us) (simp append_assoc)
 joined_front xs a (no r n) = refl
+
+-- what a step leaves to be added is what the rest adds
+pub adds_more : {A : Type 0} (xs ys zs : List A) (p q : Parsed (List A)) (r : Result (Bor (List ℕ)) Fault) → front xs p ≡ front ys q → Adds ys q zs r → Adds xs p zs r
+adds_more xs ys zs p q (Ok rest) e h = e ∙ h
+adds_more xs ys zs p q (Err fault) e h = e ∙ h
 
 -- parts of one kind, where a word stands next
 module _ {A : Type 0} (p : ℕ → List ℕ → Parsed A) (k room : ℕ) (xs : List A) (ws : List ℕ) (w : ℕ) (vs : List ℕ) (s : ws ≡ w ∷ vs) where
