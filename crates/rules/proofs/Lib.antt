@@ -1,4 +1,5 @@
 mod Somes
+mod Sizes
 mod Steps
 mod Tails
 mod Walk

@@ -1,42 +1,35 @@
--- Tests and sums over a list, one element after the other; the loop reads the list as `ys`.
-use Rattle.std.proofs.Common.{◌≡◌, ℕ, zero, suc, ◌+◌, ◌<◌, ◌≤◌, Bool, true, false, cond, List, [], ◌∷◌, ◌++◌, length, get_or, take, sum_by, sym, refl, ap, ◌∙◌, subst, ap₂, arith}
-use Rattle.std.proofs.lemmas.List.{take_more, take_all}
-use Rattle.std.proofs.lemmas.List.Sums.{sum_by_more}
+-- Tests over a list, and the first that passes one.
+use Rattle.std.proofs.Common.{◌≡◌, ℕ, zero, suc, ◌<◌, ◌≤◌, Bool, true, false, cond, List, [], ◌∷◌, ◌||◌, length, get_or, take, Some, None, refl, subst, arith}
+use Rattle.std.specs.List.{list_any, position, position_or_len, AllByRecursion}
+use Rattle.std.proofs.lemmas.List.{take_all}
+use Rattle.std.proofs.lemmas.List.Sums.{fails_before_first}
+use Rattle.std.proofs.lemmas.List.Quantifiers.{position-Some}
+use Rattle.std.proofs.lemmas.Bool.Decides.{nat_tests}
 use Rattle.grammar.specs.Validity.{some}
 
-cond_some : (b c d e : Bool) → c ≡ cond d true e → cond b true c ≡ cond (cond b true d) true e
-cond_some true c d e h = refl
-cond_some false c d e h = h
+either : (a b c : Bool) → b ≡ c → cond a true b ≡ (a || c)
+either true b c h = refl
+either false b c h = h
 
-cond_true : (b c : Bool) → c ≡ true → cond b true c ≡ true
-cond_true true c h = refl
-cond_true false c h = h
+-- an element passes
+pub some_any : {A : Type 0} (f : A → Bool) (xs : List A) → some f xs ≡ list_any f xs
+some_any f [] = refl
+some_any f (x ∷ xs) = either (f x) (some f xs) (list_any f xs) (some_any f xs)
 
-pub some_append : {A : Type 0} (f : A → Bool) (xs ys : List A) → some f (xs ++ ys) ≡ cond (some f xs) true (some f ys)
-some_append f [] ys = refl
-some_append f (x ∷ xs) ys = cond_some (f x) (some f (xs ++ ys)) (some f xs) (some f ys) (some_append f xs ys)
+-- from the elements below an index to the elements that stand before it
+below : (p : ℕ → Bool) (xs : List ℕ) (n : ℕ) → n ≤ length xs → ((k : ℕ) → k < n → p (get_or xs k 0) ≡ false) → AllByRecursion (λ x. p x ≡ false) (take n xs)
+below p xs zero h f = tt
+below p [] (suc n) h f = absurd (omega arith)
+below p (x ∷ xs) (suc n) h f = (f 0 (omega arith), below p xs n (omega arith) (λ k l. f (suc k) (omega arith)))
 
-some_at : {A : Type 0} (f : A → Bool) (xs : List A) (i : ℕ) (d : A) → i < length xs → f (get_or xs i d) ≡ true → some f xs ≡ true
-some_at f [] i d h t = absurd (omega arith)
-some_at f (y ∷ ys) zero d h t = rw t
-some_at f (y ∷ ys) (suc i) d h t = cond_true (f y) (some f ys) (some_at f ys i d (omega arith) t)
+-- no element passes
+pub first_none : (p : ℕ → Bool) (xs : List ℕ) → position p xs ≡ None → AllByRecursion (λ x. p x ≡ false) xs
+first_none p xs e =
+    let h : length xs ≤ position_or_len p xs = grind (arith, nat_tests) in
+    subst (λ (ys : List ℕ). AllByRecursion (λ x. p x ≡ false) ys) (take_all (length xs) xs (omega arith))
+    (below p xs (length xs) (omega arith) (λ k l. fails_before_first p xs k 0 (omega arith)))
 
-module _ {A : Type 0} (xs ys : List A) (e : ys ≡ xs) where
-  pub some_here : (f : A → Bool) (i : ℕ) (d : A) → i < length ys → f (get_or ys i d) ≡ true → some f xs ≡ true
-  some_here f i d h t = ap (some f) (sym e) ∙ some_at f ys i d h t
-
-  pub some_more : (f : A → Bool) (i : ℕ) (d : A) → i < length ys → some f (take i xs) ≡ false → f (get_or ys i d) ≡ false → some f (take (i + 1) xs) ≡ false
-  some_more f i d h s t =
-      let r : some f (take i ys) ≡ false = ap (λ (zs : List A). some f (take i zs)) e ∙ s in
-      ap (λ (zs : List A). some f (take (i + 1) zs)) (sym e) ∙ ap (some f) (take_more ys i d h) ∙ some_append f (take i ys) (get_or ys i d ∷ []) ∙ rw (r, t)
-
-  pub some_all : (f : A → Bool) (n : ℕ) → length ys ≤ n → some f (take n xs) ≡ false → some f xs ≡ false
-  some_all f n h s = sym (ap (some f) (take_all n xs (subst (λ (zs : List A). length zs ≤ n) e h))) ∙ s
-
-  pub sum_more : (f : A → ℕ) (i : ℕ) (x : A) → i < length ys → x ≡ get_or ys i x → sum_by f (take (i + 1) xs) ≡ sum_by f (take i xs) + f x
-  sum_more f i x h g =
-      ap (λ (zs : List A). sum_by f (take (i + 1) zs)) (sym e) ∙ sum_by_more f ys i x h
-      ∙ ap₂ (λ (m n : ℕ). m + n) (ap (λ (zs : List A). sum_by f (take i zs)) e) (ap f (sym g))
-
-  pub sum_all : (f : A → ℕ) (n : ℕ) → length ys ≤ n → sum_by f (take n xs) ≡ sum_by f xs
-  sum_all f n h = ap (sum_by f) (take_all n xs (subst (λ (zs : List A). length zs ≤ n) e h))
+-- none passes before the first that does
+pub first_some : (p : ℕ → Bool) (xs : List ℕ) (n : ℕ) → position p xs ≡ Some n →
+    (n < length xs) × (p (get_or xs n 0) ≡ true) × AllByRecursion (λ x. p x ≡ false) (take n xs)
+first_some p xs n e = let f = position-Some p xs n 0 e in (f.0, f.1, below p xs n (omega (arith, f.0)) f.2)

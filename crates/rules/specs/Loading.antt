@@ -1,5 +1,5 @@
 -- What loading words gives.
-use Rattle.std.specs.Prelude.{◌≡◌, ℕ, ◌-◌, List, ◌++◌, map, length, Ok, Err, vec_items, Result}
+use Rattle.std.specs.Prelude.{◌≡◌, ℕ, List, ◌++◌, map, length, Ok, Err, Result}
 use Rattle.grammar.specs.declared.reason.Reason.{Reason}
 use Rattle.grammar.specs.declared.reason.Reason.TheVariants.{OutOfTurn as TurnReason, StrayBit as BitReason, OutOfRange as RangeReason}
 use Rattle.grammar.specs.Parts.{Parts, parts}
@@ -8,16 +8,13 @@ use Rattle.grammar.specs.Faults.{Faulty, rule_words_to}
 use Rattle.grammar.specs.Validity.{Valid}
 use Rattle.rules.specs.declared.refusal.LoadFault.{LoadFault}
 use Rattle.rules.specs.declared.refusal.LoadFault.TheVariants.{OutOfTurn, StrayBit, OutOfRange, Unbound, NoTaken, Label}
-use Rattle.rules.specs.declared.refusal.LoadError.{LoadError}
-use Rattle.rules.specs.declared.refusal.LoadError.TheVariants.{Refused, Memory}
-use Rattle.rules.specs.declared.fault.ReadError.{ReadError}
-use Rattle.rules.specs.declared.fault.ReadError.TheVariants.{Word, Memory as NoMemory}
+use Rattle.rules.specs.declared.refusal.Refusal.{Refusal}
 use Rattle.rules.specs.declared.table.Table.{Table}
 use Rattle.rules.specs.declared.loader.Loaded.{Loaded}
 use Rattle.rules.specs.Faults.{FirstFault}
 
 abbrev pub rules_of : Table → List Parts
-rules_of t = map parts (vec_items t.rules)
+rules_of t = map parts (t.rules.items)
 
 -- the number of each fault
 abbrev pub code : LoadFault → ℕ
@@ -48,27 +45,17 @@ Wrong ws NoTaken place = Unsound ws NoTaken place
 Wrong ws Label place = Unsound ws Label place
 
 -- an accepted table is valid, and the words begin with its writing; a refusal says what is wrong and where
-abbrev pub Loads : List ℕ → Result Loaded LoadError → Type 0
+abbrev pub Loads : List ℕ → Result Loaded Refusal → Type 0
 Loads ws (Ok x) =
     Valid (rules_of x.table) × (x.used ≡ length (written (rules_of x.table)))
     × ((us : List ℕ) × (ws ≡ written (rules_of x.table) ++ us))
-Loads ws (Err (Refused f)) = Wrong ws f.fault f.place × (f.rules ≡ rule_words_to ws f.place)
-Loads ws (Err Memory) = Unit {0}
+Loads ws (Err f) = Wrong ws f.fault f.place × (f.rules ≡ rule_words_to ws f.place)
 
--- this table was accepted, or memory ran out
-abbrev pub Given : List Parts → Result Loaded LoadError → Type 0
+-- this table was accepted
+abbrev pub Given : List Parts → Result Loaded Refusal → Type 0
 Given rs (Ok x) = (rules_of x.table ≡ rs) × (x.used ≡ length (written rs))
-Given rs (Err (Refused f)) = ⊥
-Given rs (Err Memory) = Unit {0}
+Given rs (Err f) = ⊥
 
 -- words that begin with the writing of a valid table are accepted as that table
-abbrev pub Accepts : List ℕ → Result Loaded LoadError → Type 0
+abbrev pub Accepts : List ℕ → Result Loaded Refusal → Type 0
 Accepts ws r = (rs : List Parts) (us : List ℕ) → Valid rs → ws ≡ written rs ++ us → Given rs r
-
--- how a reader's refusal is told: the place is counted from the front
-abbrev pub Told : List ℕ → ReadError → LoadError → Type 0
-Told ws (Word f) (Refused x) =
-    (x.fault ≡ fault_of f.reason) × (x.place ≡ length ws - f.left) × (x.rules ≡ rule_words_to ws x.place)
-Told ws (Word f) Memory = ⊥
-Told ws NoMemory (Refused x) = ⊥
-Told ws NoMemory Memory = Unit {0}

@@ -1,34 +1,28 @@
-ghost use Rattle.std.specs.Prelude.{◌≡◌, ℕ, ◌+◌, ◌-◌, ◌*◌, ◌/◌, ◌%◌, ◌^◌, ◌<◌, ◌≤◌, true, false, List, [], ◌∷◌, ◌++◌, map, length, take, vec_len, sum_by, MatchOption, slice_index};
-ghost use Rattle.std.specs.List.{AllByRecursion};
+ghost use Rattle.std.specs.Prelude.{◌≡◌, ◌+◌, ◌<◌, ◌≤◌, ℕ, List, ◌++◌, map, length, sum_by, position, IfNone, IfSome};
 ghost use Rattle.grammar.specs.Parts.{parts};
 ghost use Rattle.grammar.specs.Sizes.{heads_size, rule_size};
-ghost use Rattle.grammar.specs.Validity.{some, is_var, head_has, binds, free, Sound, Rising};
+ghost use Rattle.grammar.specs.Validity.{is_var, head_has, binds, free, Sound, Valid};
 ghost use Rattle.grammar.specs.Writing.{standard, FormedRule, Formed, rule_words, written};
 ghost use Rattle.rules.specs.Faults.{RuleFault, FirstFault};
 
 use crate::part::Part;
 use crate::refusal::LoadFault;
-use grammar::{Args, Head, Operand, Rule};
+use grammar::{Head, Operand, Rule};
 use words::{Kind, Word};
 
 // How many words a few parts are written as.
-pub(crate) fn total_size<P: Part>(items: &Vec<P>) -> usize
-    requires { vec_len items.now ≤ 4 }
-    ensures value { result ≡ sum_by P.Part.words items.now.items }
-    ensures bound { result ≤ 40 }
+fn total_size<P: Part>(items: &[P]) -> usize
+    requires { length items.now ≤ 4 }
+    ensures { result ≡ sum_by P.Part.words items.now }
 {
-    let mut total = 0;
-    for item in items.iter() {
-        total += item.size();
-    }
-    total
+    items.iter().map(|item| item.size()).sum()
 }
 
 fn is_variable(operand: Operand, variable: u32) -> bool
     ensures { result ≡ is_var variable operand }
 {
     match operand {
-        Operand::Var(v) => v as u32 == variable,
+        Operand::Var(v) => u32::from(v) == variable,
         Operand::Const(_) => false,
     }
 }
@@ -36,52 +30,34 @@ fn is_variable(operand: Operand, variable: u32) -> bool
 fn head_has(head: Head, variable: u32) -> bool
     ensures { result ≡ head_has variable head }
 {
-    match head.args {
-        Args::Zero => false,
-        Args::One(a) => is_variable(a, variable),
-        Args::Two(a, b) => is_variable(a, variable) || is_variable(b, variable),
-        Args::Three(a, b, c) => is_variable(a, variable)
-            || is_variable(b, variable)
-            || is_variable(c, variable),
-    }
-}
-
-fn some_has(heads: &Vec<Head>, variable: u32) -> bool
-    ensures { result ≡ some (head_has variable) heads.now.items }
-{
-    for head in heads.iter() {
-        if head_has(*head, variable) {
-            return true;
-        }
-    }
-    false
+    head.args
+        .into_iter()
+        .any(|operand| is_variable(operand, variable))
 }
 
 // Whether a variable stands in a head of the rule.
-pub(crate) fn is_bound(rule: &Rule, variable: u32) -> bool
+fn is_bound(rule: &Rule, variable: u32) -> bool
     ensures { result ≡ binds (parts rule.now) variable }
 {
-    some_has(&rule.kept, variable) || some_has(&rule.taken, variable)
+    rule.kept
+        .iter()
+        .chain(rule.taken.iter())
+        .any(|head| head_has(*head, variable))
 }
 
 // Whether a word is a VAR word whose variable stands in no head of the rule.
 fn is_free(rule: &Rule, bits: u32) -> bool
     ensures { result ≡ free (parts rule.now) bits }
 {
-    let word = Word::read(bits);
+    let word = Word::from(bits);
     word.is(Kind::Var) && !is_bound(rule, word.payload)
 }
 
 // The first of the words that is a free variable.
 fn first_free(rule: &Rule, ws: &[u32]) -> Option<usize>
-    ensures { MatchOption result (AllByRecursion (λ w. free (parts rule.now) w ≡ false) ws.now) (λ n. (n < length ws.now) × (free (parts rule.now) (slice_index ws.now n) ≡ true) × AllByRecursion (λ w. free (parts rule.now) w ≡ false) (take n ws.now)) }
+    ensures { result ≡ position (free (parts rule.now)) ws.now }
 {
-    for (i, word) in ws.iter().enumerate() {
-        if is_free(rule, *word) {
-            return Some(i);
-        }
-    }
-    None
+    ws.iter().position(|word| is_free(rule, *word))
 }
 
 // How many words a well-formed rule's RULE word and heads are written as.
@@ -96,7 +72,7 @@ fn heads_size(rule: &Rule) -> usize
 // How many words a well-formed rule is written as.
 fn rule_size(rule: &Rule) -> usize
     requires { FormedRule standard (parts rule.now) }
-    ensures value { result ≡ rule_size (parts rule.now) }
+    ensures { result ≡ rule_size (parts rule.now) }
 {
     heads_size(rule) + total_size(&rule.guards) + total_size(&rule.body)
 }
@@ -105,7 +81,9 @@ fn rule_size(rule: &Rule) -> usize
 fn rule_fault(rule: &Rule, last: u16, ws: &[u32]) -> Option<(LoadFault, usize)>
     requires formed { FormedRule standard (parts rule.now) }
     requires words { ws.now ≡ rule_words (parts rule.now) }
-    ensures { MatchOption result (Sound (parts rule.now) × (last < rule.now.label)) (λ x. RuleFault (parts rule.now) last x.0 x.1) }
+    ensures sound { IfNone result (Sound (parts rule.now)) }
+    ensures rises { IfNone result (last < rule.now.label) }
+    ensures fault { IfSome result (λ x. RuleFault (parts rule.now) last x.0 x.1) }
 {
     let heads = heads_size(rule);
     if let Some(n) = first_free(rule, &ws[heads..]) {
@@ -121,14 +99,15 @@ fn rule_fault(rule: &Rule, last: u16, ws: &[u32]) -> Option<(LoadFault, usize)>
 }
 
 // The first fault of the rules of a well-formed table and its place in the table's words.
-pub(crate) fn first_fault(rules: &Vec<Rule>, ws: &[u32]) -> Option<(LoadFault, usize)>
-    requires formed { Formed standard (map parts rules.now.items) }
-    requires begins { (us : List ℕ) × (ws.now ≡ written (map parts rules.now.items) ++ us) }
-    ensures { MatchOption result (AllByRecursion Sound (map parts rules.now.items) × Rising 0 (map parts rules.now.items)) (λ x. FirstFault (map parts rules.now.items) x.0 x.1) }
+pub(crate) fn first_fault(rules: &[Rule], ws: &[u32]) -> Option<(LoadFault, usize)>
+    requires formed { Formed standard (map parts rules.now) }
+    requires begins { (us : List ℕ) × (ws.now ≡ written (map parts rules.now) ++ us) }
+    ensures valid { IfNone result (Valid (map parts rules.now)) }
+    ensures fault { IfSome result (λ x. FirstFault (map parts rules.now) x.0 x.1) }
 {
     let mut at = 0;
     let mut last = 0;
-    for rule in rules.iter() {
+    for rule in rules {
         let size = rule_size(rule);
         if let Some((fault, offset)) = rule_fault(rule, last, &ws[at..at + size]) {
             return Some((fault, at + offset));

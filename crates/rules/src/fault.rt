@@ -1,8 +1,7 @@
-ghost use Rattle.std.specs.Prelude.{◌≡◌};
-ghost use Rattle.rules.specs.declared.fault.ReadError.TheVariants.{Word, Memory};
+ghost use Rattle.std.specs.Prelude.{◌≡◌, true, false, OnOk, OnErr, IfErr};
+ghost use Rattle.grammar.specs.declared.reason.Reason.TheVariants.{OutOfTurn};
 
 use grammar::Reason;
-use std::alloc::{AllocError, AllocFailed};
 
 // A faulty word: why, and how many words were left with it; none left where the words end too early.
 #[derive(Clone, Copy)]
@@ -11,25 +10,27 @@ pub(crate) struct Fault {
     pub left: usize,
 }
 
-// Why reading stopped.
-#[derive(Clone, Copy)]
-pub(crate) enum ReadError {
-    Word(Fault),
-    Memory,
-}
-
-impl From<Fault> for ReadError {
-    ghost from_gives = { λ x r. r ≡ Word x };
-
-    fn from(fault: Fault) -> ReadError {
-        ReadError::Word(fault)
+impl Fault {
+    // No word of its kind may stand there, or no word is left.
+    pub(crate) fn out_of_turn(left: usize) -> Fault
+        ensures { result ≡ record { reason = OutOfTurn; left = left } }
+    {
+        Fault {
+            reason: Reason::OutOfTurn,
+            left,
+        }
     }
-}
 
-impl<T: Drop> From<AllocFailed<T>> for ReadError {
-    ghost from_gives = { λ _ r. r ≡ Memory };
-
-    fn from(_refused: AllocFailed<T>) -> ReadError {
-        ReadError::Memory
+    // Refuses a word for this reason unless the test holds.
+    pub(crate) fn unless(holds: bool, reason: Reason, left: usize) -> Result<(), Fault>
+        ensures passes { OnOk result (holds ≡ true) }
+        ensures refuses { OnErr result (holds ≡ false) }
+        ensures fault { IfErr result (λ f. f ≡ record { reason = reason; left = left }) }
+    {
+        if holds {
+            Ok(())
+        } else {
+            Err(Fault { reason, left })
+        }
     }
 }

@@ -11,5 +11,5 @@ mod rule;
 pub mod table;
 
 pub use loader::{Loaded, load};
-pub use refusal::{LoadError, LoadFault, Refusal};
+pub use refusal::{LoadFault, Refusal};
 pub use table::Table;

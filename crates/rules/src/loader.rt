@@ -1,19 +1,16 @@
-ghost use Rattle.std.specs.Prelude.{◌≡◌, ℕ, ◌+◌, ◌-◌, ◌*◌, ◌/◌, ◌%◌, ◌^◌, ◌<◌, ◌≤◌, List, [], ◌∷◌, ◌++◌, map, length, vec_len, count_by, nat_eq};
+ghost use Rattle.std.specs.Prelude.{◌≡◌, ◌-◌, length, count_by, nat_eq};
 ghost use Rattle.words.specs.Words.{kind_of};
 ghost use Rattle.grammar.specs.Faults.{rule_words_to};
 ghost use Rattle.grammar.specs.Validity.{Valid};
-ghost use Rattle.rules.specs.Loading.{rules_of, fault_of, Told, Loads, Accepts};
+ghost use Rattle.rules.specs.Loading.{rules_of, fault_of, Loads, Accepts};
 
 use crate::check::first_fault;
-use crate::fault::ReadError;
-use crate::refusal::{LoadError, LoadFault, Refusal};
-use crate::rule::read_rules;
+use crate::fault::Fault;
+use crate::refusal::{LoadFault, Refusal};
+use crate::rule::read_table;
 use crate::table::Table;
-use grammar::{Reason, Rule};
-use std::alloc::Global;
+use grammar::Rule;
 use words::{Kind, Word};
-
-const MOST_RULES: usize = 32;
 
 // An accepted table, and how many words it took.
 #[derive(Drop)]
@@ -24,8 +21,8 @@ pub struct Loaded {
 
 impl Table {
     // The rules, in table order.
-    pub fn rules(&self) -> &Vec<Rule>
-        ensures same { result.now ≡ self.now.rules }
+    pub fn rules(&self) -> &[Rule]
+        ensures same { result.now ≡ self.now.rules.items }
         ensures valid { ∥ Valid (rules_of self.now) ∥₁ }
     {
         &self.rules
@@ -36,24 +33,18 @@ impl Table {
 fn count_rules(ws: &[u32]) -> usize
     ensures { result ≡ count_by (λ w. nat_eq (kind_of w) 1) ws.now }
 {
-    let mut count = 0;
-    for word in ws {
-        if Word::read(*word).is(Kind::Rule) {
-            count += 1;
-        }
-    }
-    count
+    ws.iter()
+        .filter(|word| Word::from(**word).is(Kind::Rule))
+        .count()
 }
 
 // A refusal at a place, with the RULE words up to it and with it.
 fn refusal(fault: LoadFault, place: usize, ws: &[u32]) -> Refusal
-    ensures { (result.fault ≡ fault) × (result.place ≡ place) × (result.rules ≡ rule_words_to ws.now place) }
+    ensures fault { result.fault ≡ fault }
+    ensures place { result.place ≡ place }
+    ensures rules { result.rules ≡ rule_words_to ws.now place }
 {
-    let rules = if place < ws.len() {
-        count_rules(&ws[0..place + 1])
-    } else {
-        count_rules(ws)
-    };
+    let rules = count_rules(ws.get(..=place).unwrap_or(ws));
     Refusal {
         fault,
         place,
@@ -61,40 +52,24 @@ fn refusal(fault: LoadFault, place: usize, ws: &[u32]) -> Refusal
     }
 }
 
-fn fault_of(reason: Reason) -> LoadFault
-    ensures { result ≡ fault_of reason }
+// The refusal of a faulty word: its place is counted from the front.
+fn refused(fault: Fault, ws: &[u32]) -> Refusal
+    ensures fault { result.fault ≡ fault_of fault.reason }
+    ensures place { result.place ≡ length ws.now - fault.left }
+    ensures rules { result.rules ≡ rule_words_to ws.now result.place }
 {
-    match reason {
-        Reason::OutOfTurn => LoadFault::OutOfTurn,
-        Reason::StrayBit => LoadFault::StrayBit,
-        Reason::OutOfRange => LoadFault::OutOfRange,
-    }
-}
-
-fn load_error(error: ReadError, ws: &[u32]) -> LoadError
-    ensures { Told ws.now error result }
-{
-    match error {
-        ReadError::Word(fault) => {
-            let place = ws.len().saturating_sub(fault.left);
-            LoadError::Refused(refusal(fault_of(fault.reason), place, ws))
-        }
-        ReadError::Memory => LoadError::Memory,
-    }
+    let place = ws.len().saturating_sub(fault.left);
+    refusal(fault.reason.into(), place, ws)
 }
 
 // Loads the table that the words begin with.
-pub fn load(heap: Global, words: &[u32]) -> Result<Loaded, LoadError>
+pub fn load(words: &[u32]) -> Result<Loaded, Refusal>
     ensures loads { Loads words.now result }
     ensures accepts { Accepts words.now result }
 {
-    let mut rules = Vec::new(heap);
-    let rest = match read_rules(&mut rules, heap, MOST_RULES, words) {
-        Ok(rest) => rest,
-        Err(error) => return Err(load_error(error, words)),
-    };
+    let (rules, rest) = read_table(words).map_err(|fault| refused(fault, words))?;
     if let Some((fault, place)) = first_fault(&rules, words) {
-        return Err(LoadError::Refused(refusal(fault, place, words)));
+        return Err(refusal(fault, place, words));
     }
     Ok(Loaded {
         table: Table { rules },

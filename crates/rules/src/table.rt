@@ -2,11 +2,12 @@ ghost use Rattle.std.specs.Prelude.{map};
 ghost use Rattle.grammar.specs.Parts.{parts};
 ghost use Rattle.grammar.specs.Validity.{Valid};
 
+use arrayvec::ArrayVec;
 use grammar::Rule;
 
 // Loaded rules, in table order: ranges, amounts, bound variables, taken heads and rising labels are as they must be.
 #[derive(Drop)]
 pub struct Table {
-    pub(crate) rules: Vec<Rule>,
+    pub(crate) rules: ArrayVec<Rule, 32>,
     ghost valid: { ∥ Valid (map parts rules.items) ∥₁ },
 }

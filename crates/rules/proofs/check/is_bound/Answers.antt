@@ -1,17 +1,17 @@
-use Rattle.std.proofs.Common.{◌≡◌, true, vec_items, sym, ◌∙◌}
-use Rattle.grammar.specs.Validity.{some, head_has}
-use Rattle.rules.proofs.Somes.{some_append}
+use Rattle.std.proofs.Common.{◌++◌, sym, ◌∙◌, rules}
+use Rattle.std.proofs.lemmas.Iterator.{YieldsList-from_slice}
+use Rattle.std.proofs.lemmas.Iterator.Consumers.{YieldsList-from_chain}
+use Rattle.std.proofs.lemmas.Iterator.Search.{any_from_yields_List}
+use Rattle.grammar.specs.Validity.{head_has}
+use Rattle.rules.proofs.Somes.{some_any}
 use Rattle.rules.proofs.check.is_bound.Goals as goal
 
-pub returns-then-some_has : goal.returns-then-some_has
-returns-then-some_has c =
+pub returns : goal.returns
+returns c =
     let f = head_has c.args.variable in
-    let h : some f (vec_items c.args.rule.now.kept) ≡ true = sym c.if-some_has.ensures in
-    c.if-some_has.true ∙ sym (some_append f (vec_items c.args.rule.now.kept) (vec_items c.args.rule.now.taken) ∙ rw h)
-
-pub returns-else-some_has : goal.returns-else-some_has
-returns-else-some_has c =
-    let f = head_has c.args.variable in
-    let h = sym c.if-some_has.ensures in
-    c.some_has-else-some_has.ensures
-    ∙ sym (some_append f (vec_items c.args.rule.now.kept) (vec_items c.args.rule.now.taken) ∙ rw h)
+    let ks = c.args.rule.now.kept.items in
+    let ts = c.args.rule.now.taken.items in
+    let kept = YieldsList-from_slice {s = c.chain.result.a} ks (search rules) in
+    let taken = YieldsList-from_slice {s = c.chain.result.b} ts (search rules) in
+    let both = YieldsList-from_chain {s = c.chain.result} kept taken (search rules) (search rules) in
+    any_from_yields_List f _ _ c.any.result c.any.ensures.ran both (λ x b q k. search rules) ∙ sym (some_any f (ks ++ ts))
