@@ -7,23 +7,19 @@ use Rattle.grammar.specs.Atoms.{Head}
 use Rattle.args.specs.Listed.{listed}
 use Rattle.grammar.specs.Parts.{Parts}
 use Rattle.facts.specs.Lists.{Nth}
-use Rattle.std.specs.List.{flat_map, AllByRecursion}
+use Rattle.std.specs.List.{flat_map, list_any, AllByRecursion}
 use Rattle.grammar.specs.Writing.{standard, Formed, tail_words, rule_words}
-
-abbrev pub some : {A : Type 0} → (A → Bool) → List A → Bool
-some f [] = false
-some f (x ∷ xs) = cond (f x) true (some f xs)
 
 abbrev pub is_var : ℕ → Operand → Bool
 is_var v (Var u) = u == v
 is_var v (Const n) = false
 
 abbrev pub head_has : ℕ → Head → Bool
-head_has v h = some (is_var v) (listed h.args)
+head_has v h = list_any (is_var v) (listed h.args)
 
 -- a variable stands in a head of the rule
 abbrev pub binds : Parts → ℕ → Bool
-binds r v = some (head_has v) (r.kept ++ r.taken)
+binds r v = list_any (head_has v) (r.kept ++ r.taken)
 
 -- a VAR word whose variable stands in no head
 abbrev pub free : Parts → ℕ → Bool

@@ -1,4 +1,4 @@
-mod Somes
+mod Firsts
 mod Sizes
 mod Steps
 mod Tails

@@ -13,7 +13,7 @@ use Rattle.grammar.proofs.Sizes.{heads_length, rule_length}
 use Rattle.rules.specs.declared.refusal.LoadFault.{LoadFault}
 use Rattle.rules.specs.declared.refusal.LoadFault.TheVariants.{OutOfTurn, StrayBit, OutOfRange, Unbound, NoTaken, Label}
 use Rattle.rules.specs.Faults.{RuleFault}
-use Rattle.rules.proofs.Somes.{first_none, first_some}
+use Rattle.rules.proofs.Firsts.{first_none, first_some}
 
 module _ (r : Parts) (ws : List ℕ) (n : ℕ) (e : ws ≡ rule_words r) (h : n ≡ heads_size r) where
   pub heads_within : n ≤ length ws

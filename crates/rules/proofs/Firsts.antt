@@ -1,20 +1,10 @@
--- Tests over a list, and the first that passes one.
-use Rattle.std.proofs.Common.{◌≡◌, ℕ, zero, suc, ◌<◌, ◌≤◌, Bool, true, false, cond, List, [], ◌∷◌, ◌||◌, length, get_or, take, Some, None, refl, subst, arith}
-use Rattle.std.specs.List.{list_any, position, position_or_len, AllByRecursion}
+-- The first element of a list that passes a test.
+use Rattle.std.proofs.Common.{◌≡◌, ℕ, zero, suc, ◌<◌, ◌≤◌, Bool, true, false, List, [], ◌∷◌, length, get_or, take, Some, None, subst, arith}
+use Rattle.std.specs.List.{position, position_or_len, AllByRecursion}
 use Rattle.std.proofs.lemmas.List.{take_all}
 use Rattle.std.proofs.lemmas.List.Sums.{fails_before_first}
 use Rattle.std.proofs.lemmas.List.Quantifiers.{position-Some}
 use Rattle.std.proofs.lemmas.Bool.Decides.{nat_tests}
-use Rattle.grammar.specs.Validity.{some}
-
-either : (a b c : Bool) → b ≡ c → cond a true b ≡ (a || c)
-either true b c h = refl
-either false b c h = h
-
--- an element passes
-pub some_any : {A : Type 0} (f : A → Bool) (xs : List A) → some f xs ≡ list_any f xs
-some_any f [] = refl
-some_any f (x ∷ xs) = either (f x) (some f xs) (list_any f xs) (some_any f xs)
 
 -- from the elements below an index to the elements that stand before it
 below : (p : ℕ → Bool) (xs : List ℕ) (n : ℕ) → n ≤ length xs → ((k : ℕ) → k < n → p (get_or xs k 0) ≡ false) → AllByRecursion (λ x. p x ≡ false) (take n xs)
