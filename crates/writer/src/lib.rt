@@ -2,15 +2,12 @@
 
 mod add;
 mod code;
-mod put;
+mod part;
 pub mod refusal;
+pub mod stage;
 pub mod table;
 mod tally;
-pub mod whole;
+mod variables;
 
-pub use refusal::Refusal;
-pub use table::{Begun, Filling, Guarding, TableWriter, Taking};
-pub use whole::write_table;
-
-#[cfg(test)]
-mod tests;
+pub use refusal::{Refusal, Refused};
+pub use table::{Begun, Filling, Guarding, OpenRule, TableWriter, Taking};
