@@ -3,3 +3,5 @@ pub mod Bits
 pub mod Adds
 pub mod Grows
 pub mod Ends
+pub mod Rows
+pub mod Loads

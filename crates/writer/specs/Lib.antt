@@ -5,3 +5,4 @@ pub mod Tallies
 pub mod Stages
 pub mod Tables
 pub mod Calls
+pub mod Lengths

@@ -6,15 +6,26 @@ ghost use Rattle.writer.specs.Calls.{Added, NotAdded};
 ghost use Rattle.writer.specs.declared.refusal.Refusal.TheVariants.{NoRoom};
 
 use crate::part::Part;
-use crate::variables::{bind_head, is_within};
 use crate::refusal::Refusal;
 use crate::tally::Tally;
+use crate::variables::{bind_head, is_within};
 
 const MOST_HEADS: usize = 3;
 
 const MOST_GUARDS: usize = 4;
 
 const MOST_BODY: usize = 3;
+
+// Puts words from a place on; gives the place after them.
+pub fn put_words(memory: &mut [u32], at: usize, words: &[u32]) -> usize
+    requires { at + length words.now ≤ length memory.old }
+    ensures memory { memory.new ≡ placed at words.now memory.old }
+    ensures value { result ≡ at + length words.now }
+{
+    let end = at + words.len();
+    memory[at..end].copy_from_slice(words);
+    end
+}
 
 // Puts words behind the words so far.
 pub fn add_words(memory: &mut [u32], used: usize, words: &[u32]) -> Result<usize, Refusal>
@@ -23,9 +34,7 @@ pub fn add_words(memory: &mut [u32], used: usize, words: &[u32]) -> Result<usize
     if used > memory.len() || words.len() > memory.len() - used {
         return Err(Refusal::NoRoom);
     }
-    let end = used + words.len();
-    memory[used..end].copy_from_slice(words);
-    Ok(end)
+    Ok(put_words(memory, used, words))
 }
 
 impl Tally {

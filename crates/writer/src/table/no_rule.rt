@@ -57,7 +57,11 @@ impl TableWriter {
         }
         match add_words(memory, self.used, &[word_of(Kind::Rule, u32::from(label))]) {
             Ok(used) => {
-                let TableWriter { used: _, rules, last: _ } = self;
+                let TableWriter {
+                    used: _,
+                    rules,
+                    last: _,
+                } = self;
                 let tally = Tally {
                     used,
                     rules: rules + 1,

@@ -40,11 +40,7 @@ impl<S> OpenRule<S> {
 
 impl Begun {
     // A kept head more.
-    pub fn keep(
-        self,
-        memory: &mut [u32],
-        head: Head,
-    ) -> Result<(Begun, usize), Refused<Begun>>
+    pub fn keep(self, memory: &mut [u32], head: Head) -> Result<(Begun, usize), Refused<Begun>>
         ensures does { Adds self (Part.Kept head) memory.old memory.new result }
         ensures table { Grows IsBegun IsBegun self (Part.Kept head) memory.old memory.new result }
     {
