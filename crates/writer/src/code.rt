@@ -73,8 +73,7 @@ impl Argument for Operand {
     }
 
     fn words(self) -> Option<Args<u32>> {
-        let word = operand_word(self)?;
-        Some(Args::One(word))
+        Some(Args::One(operand_word(self)?))
     }
 }
 
@@ -96,20 +95,17 @@ impl Argument for Term {
 
     fn words(self) -> Option<Args<u32>> {
         match self {
-            Term::One(a) => {
-                let a = operand_word(a)?;
-                Some(Args::One(a))
-            }
-            Term::Sum(a, b) => {
-                let a = operand_word(a)?;
-                let b = operand_word(b)?;
-                Some(Args::Three(word_of(Kind::Sum, 0), a, b))
-            }
-            Term::Diff(a, b) => {
-                let a = operand_word(a)?;
-                let b = operand_word(b)?;
-                Some(Args::Three(word_of(Kind::Diff, 0), a, b))
-            }
+            Term::One(a) => Some(Args::One(operand_word(a)?)),
+            Term::Sum(a, b) => Some(Args::Three(
+                word_of(Kind::Sum, 0),
+                operand_word(a)?,
+                operand_word(b)?,
+            )),
+            Term::Diff(a, b) => Some(Args::Three(
+                word_of(Kind::Diff, 0),
+                operand_word(a)?,
+                operand_word(b)?,
+            )),
         }
     }
 }
@@ -172,20 +168,8 @@ impl<A: Argument> Encode for Atom<A> {
     }
 }
 
-fn test_number(test: Test) -> u32
-    ensures value { result ≡ test_number test }
-    ensures bound { result ≤ 3 }
-{
-    match test {
-        Test::Equal => 0,
-        Test::NotEqual => 1,
-        Test::Less => 2,
-        Test::AtMost => 3,
-    }
-}
-
 impl Encode for Guard {
-    ghost words = { λ _. guard_words };
+    ghost words = { λ k guard. word k (test_number guard.test) ∷ (term_words guard.left ++ term_words guard.right) };
 
     ghost formed = { FormedGuard };
 
@@ -197,11 +181,11 @@ impl Encode for Guard {
         1 + self.left.size() + self.right.size()
     }
 
-    fn code(self, _kind: Kind) -> Option<Code> {
+    fn code(self, kind: Kind) -> Option<Code> {
         let left = self.left.words()?;
         let right = self.right.words()?;
         let mut code = Code::new();
-        code.push(word_of(Kind::Guard, test_number(self.test)));
+        code.push(word_of(kind, self.test as u32));
         push_all(&mut code, left);
         push_all(&mut code, right);
         Some(code)

@@ -24,57 +24,57 @@ pub trait MayGuard: MayClose {
 }
 
 // No taken head yet.
-pub struct Begin;
+pub struct Start;
 
 // A taken head, and no guard or body fact.
-pub struct Take;
+pub struct Heads;
 
 // A guard, and no body fact.
-pub struct Test;
+pub struct Guards;
 
 // A body fact.
-pub struct Fill;
+pub struct Body;
 
-impl Stage for Begin {
+impl Stage for Start {
     ghost reached = { IsBegun };
 }
 
-impl Stage for Take {
+impl Stage for Heads {
     ghost reached = { IsTaking };
 }
 
-impl Stage for Test {
+impl Stage for Guards {
     ghost reached = { IsGuarding };
 }
 
-impl Stage for Fill {
+impl Stage for Body {
     ghost reached = { IsFilling };
 }
 
-impl MayTake for Begin {
+impl MayTake for Start {
     ghost no_tail = { λ r s. (s.1, s.2) };
 }
 
-impl MayTake for Take {
+impl MayTake for Heads {
     ghost no_tail = { λ r s. (s.1, s.2) };
 }
 
-impl MayClose for Take {
+impl MayClose for Heads {
     ghost takes = { λ r s. s.0 };
 }
 
-impl MayClose for Test {
+impl MayClose for Guards {
     ghost takes = { λ r s. s.0 };
 }
 
-impl MayClose for Fill {
+impl MayClose for Body {
     ghost takes = { λ r s. s };
 }
 
-impl MayGuard for Take {
+impl MayGuard for Heads {
     ghost no_body = { λ r s. s.2 };
 }
 
-impl MayGuard for Test {
+impl MayGuard for Guards {
     ghost no_body = { λ r s. s.1 };
 }

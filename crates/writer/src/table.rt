@@ -1,7 +1,7 @@
 mod no_rule;
 mod open_rule;
 
-use crate::stage::{Begin, Fill, Take, Test};
+use crate::stage::{Body, Guards, Heads, Start};
 use crate::tally::Tally;
 use std::marker::PhantomData;
 
@@ -19,13 +19,13 @@ pub struct OpenRule<S> {
 }
 
 // An open rule with no taken head yet.
-pub type Begun = OpenRule<Begin>;
+pub type Begun = OpenRule<Start>;
 
 // An open rule with a taken head, and no guard or body fact.
-pub type Taking = OpenRule<Take>;
+pub type Taking = OpenRule<Heads>;
 
 // An open rule with a guard, and no body fact.
-pub type Guarding = OpenRule<Test>;
+pub type Guarding = OpenRule<Guards>;
 
 // An open rule with a body fact.
-pub type Filling = OpenRule<Fill>;
+pub type Filling = OpenRule<Body>;

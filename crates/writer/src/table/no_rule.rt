@@ -87,10 +87,7 @@ impl TableWriter {
         ensures table { (rs : List Parts) → Tabled self memory.old rs → MatchResult result (λ n. Ended n memory.old memory.new rs) (λ e. Tabled e.state memory.new rs) }
     {
         match add_words(memory, self.used, &[word_of(Kind::End, 0)]) {
-            Ok(after) => {
-                let _ = self.give_up();
-                Ok(after)
-            }
+            Ok(_) => Ok(self.give_up() + 1),
             Err(why) => Err(self.refused(why)),
         }
     }
@@ -100,10 +97,10 @@ impl TableWriter {
         ensures { result ≡ self.used }
     {
         let TableWriter {
-            used,
+            used: words,
             rules: _,
             last: _,
         } = self;
-        used
+        words
     }
 }

@@ -103,13 +103,11 @@ impl<S: MayClose> OpenRule<S> {
         ensures table { (memory : List ℕ) (rs : List Parts) (p : Parts) → Opened self.tally memory rs p → S.reached p → Tabled result.0 memory (rs ++ p ∷ []) }
     {
         let OpenRule { tally, stage: _ } = self;
-        (
-            TableWriter {
-                used: tally.used,
-                rules: tally.rules,
-                last: tally.label,
-            },
-            tally.used,
-        )
+        let table = TableWriter {
+            used: tally.used,
+            rules: tally.rules,
+            last: tally.label,
+        };
+        (table, tally.used)
     }
 }
