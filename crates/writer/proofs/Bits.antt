@@ -1,15 +1,15 @@
 -- A variable more among the bits.
-use Rattle.std.proofs.Common.{◌≡◌, ℕ, zero, suc, ◌+◌, ◌-◌, ◌*◌, ◌/◌, ◌%◌, ◌^◌, ◌<◌, ◌≤◌, Bool, true, false, cond, eqb, ◌⊎◌, List, [], ◌∷◌, sym, refl, ap, ◌∙◌, inl, inr, ⊎_elim, one-mul, arith}
+use Rattle.std.proofs.Common.{◌≡◌, ℕ, zero, suc, ◌+◌, ◌-◌, ◌*◌, ◌/◌, ◌%◌, ◌^◌, ◌<◌, ◌≤◌, Bool, true, false, eqb, ◌||◌, ◌⊎◌, List, [], ◌∷◌, sym, refl, ap, ◌∙◌, inl, inr, ⊎_elim, one-mul, arith}
 use native.Mathlib.Nat.{div-eq_of_lt, pow-le-pow_right, pow-succ'}
 use lib.Bits.{bit_or, or_zero_r}
+use Rattle.std.specs.List.{list_any}
 use Rattle.std.proofs.lemmas.Nat.{or_shr, or_mod, pow-add, pow_below, shl-shr}
-use Rattle.std.proofs.lemmas.Bool.Decides.{nat_tests}
 use Rattle.std.proofs.lemmas.Bool.{cases_order, eq-eqb, ne_eqb}
 use Rattle.grammar.specs.declared.part.Operand.{Operand}
 use Rattle.grammar.specs.declared.part.Operand.TheVariants.{Var, Const}
 use Rattle.grammar.specs.Atoms.{Head}
 use Rattle.args.specs.Listed.{listed}
-use Rattle.grammar.specs.Validity.{some, is_var, head_has}
+use Rattle.grammar.specs.Validity.{is_var, head_has}
 use Rattle.writer.specs.Variables.{has, bind_operand, bind_all, bind_head}
 
 -- no number below 256 has a bit past the eighth
@@ -62,27 +62,29 @@ module _ (b v u : ℕ) where
       ∙ shl-shr (2 ^ suc (v - suc u)) u ∙ pow-succ' 2 (v - suc u) in
       unset (ap (λ (n : ℕ). n % 2) p ∙ omega arith)
 
-  has_more : has (bit_or b (2 ^ v)) u ≡ cond (eqb v u) true (has b u)
+  has_more : has (bit_or b (2 ^ v)) u ≡ (eqb v u || has b u)
   has_more =
-      ⊎_elim (λ (e : v ≡ u). same e ∙ sym (ap (λ (t : Bool). cond t true (has b u)) (eq-eqb v u e)))
-      (⊎_elim (λ (h : v < u). lower h ∙ sym (ap (λ (t : Bool). cond t true (has b u)) (ne_eqb v u (λ e. omega arith))))
-      (λ (h : u < v). higher h ∙ sym (ap (λ (t : Bool). cond t true (has b u)) (ne_eqb v u (λ e. omega arith)))))
+      ⊎_elim (λ (e : v ≡ u). same e ∙ sym (ap (λ (t : Bool). t || has b u) (eq-eqb v u e)))
+      (⊎_elim (λ (h : v < u). lower h ∙ sym (ap (λ (t : Bool). t || has b u) (ne_eqb v u (λ e. omega arith))))
+      (λ (h : u < v). higher h ∙ sym (ap (λ (t : Bool). t || has b u) (ne_eqb v u (λ e. omega arith)))))
       (cases_order v u)
 
-has_operand : (b u : ℕ) (a : Operand) → has (bind_operand b a) u ≡ cond (is_var u a) true (has b u)
+has_operand : (b u : ℕ) (a : Operand) → has (bind_operand b a) u ≡ (is_var u a || has b u)
 has_operand b u (Var v) = has_more b v u
 has_operand b u (Const n) = refl
 
-cond_swap : (p q r : Bool) → cond p true (cond q true r) ≡ cond (cond q true p) true r
-cond_swap p true r = grind (arith, nat_tests)
-cond_swap p false r = refl
+either_way : (p q r : Bool) → (p || (q || r)) ≡ ((q || p) || r)
+either_way true true r = refl
+either_way true false r = refl
+either_way false true r = refl
+either_way false false r = refl
 
-has_all : (b u : ℕ) (xs : List Operand) → has (bind_all b xs) u ≡ cond (some (is_var u) xs) true (has b u)
+has_all : (b u : ℕ) (xs : List Operand) → has (bind_all b xs) u ≡ (list_any (is_var u) xs || has b u)
 has_all b u [] = refl
 has_all b u (x ∷ xs) =
-    has_all (bind_operand b x) u xs ∙ ap (λ (t : Bool). cond (some (is_var u) xs) true t) (has_operand b u x)
-    ∙ cond_swap (some (is_var u) xs) (is_var u x) (has b u)
+    has_all (bind_operand b x) u xs ∙ ap (λ (t : Bool). list_any (is_var u) xs || t) (has_operand b u x)
+    ∙ either_way (list_any (is_var u) xs) (is_var u x) (has b u)
 
 -- the variables of one head more
-pub has_head : (b u : ℕ) (h : Head) → has (bind_head b h) u ≡ cond (head_has u h) true (has b u)
+pub has_head : (b u : ℕ) (h : Head) → has (bind_head b h) u ≡ (head_has u h || has b u)
 has_head b u h = has_all b u (listed h.args)

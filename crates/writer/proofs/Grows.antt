@@ -1,6 +1,7 @@
 -- What the words so far are the writing of, after a part more.
-use Rattle.std.proofs.Common.{◌≡◌, ℕ, ◌+◌, Bool, true, false, cond, not, eqb, List, [], ◌∷◌, ◌++◌, Ok, Err, length, take, sym, refl, ap, ◌∙◌, subst, ap₂, arith}
-use Rattle.std.specs.List.{flat_map, AllByRecursion}
+use Rattle.std.proofs.Common.{◌≡◌, ℕ, ◌+◌, Bool, true, false, cond, not, eqb, ◌||◌, List, [], ◌∷◌, ◌++◌, Ok, Err, length, take, sym, refl, ap, ◌∙◌, subst, ap₂, arith}
+use Rattle.std.specs.List.{flat_map, list_any, AllByRecursion}
+use Rattle.std.proofs.lemmas.List.Folds.{list_any-append}
 use Rattle.std.proofs.lemmas.List.{append-nil, append_assoc, length-append, length_push, flat_map_more}
 use Rattle.std.proofs.ByRecursion.{All-append, All-push, All-weaker}
 use Rattle.words.specs.Words.{kind_of, payload_of, word}
@@ -9,7 +10,7 @@ use Rattle.grammar.specs.Parts.{Parts}
 use Rattle.grammar.specs.Writing.{head_words, guard_words, body_words, heads_words, tail_words, rule_words}
 use Rattle.grammar.specs.Sizes.{head_size, guard_size, body_size}
 use Rattle.grammar.proofs.Sizes.{head_length, guard_length, body_length}
-use Rattle.grammar.specs.Validity.{some, head_has, binds, free}
+use Rattle.grammar.specs.Validity.{head_has, binds, free}
 use Rattle.writer.specs.declared.tally.Tally.{Tally}
 use Rattle.writer.specs.Memory.{placed}
 use Rattle.writer.specs.declared.part.Part.{Part}
@@ -38,21 +39,18 @@ pub longer : (n size : ℕ) (m m' zs xs ys ws : List ℕ) → Front n m (zs ++ x
 longer n size m m' zs xs ys ws f e l h p =
     subst (λ (v : List ℕ). Front (n + size) m' v) (append_assoc zs xs ws ∙ ap (λ (v : List ℕ). zs ++ v) (sym e)) (front_on n size m m' (zs ++ xs) ws f l h p)
 
-some_push : {A : Type 0} (f : A → Bool) (xs : List A) (x : A) → some f (xs ++ x ∷ []) ≡ cond (f x) true (some f xs)
-some_push f [] x = refl
-some_push f (y ∷ ys) x = ap (λ (b : Bool). cond (f y) true b) (some_push f ys x) ∙ swap (f y) (f x) (some f ys)
-  where
-    swap : (p q r : Bool) → cond p true (cond q true r) ≡ cond q true (cond p true r)
-    swap true true r = refl
-    swap true false r = refl
-    swap false true r = refl
-    swap false false r = refl
+either_first : (p q : Bool) → (p || q) ≡ (q || (p || false))
+either_first true true = refl
+either_first true false = refl
+either_first false true = refl
+either_first false false = refl
 
 -- variables of a head more
-more_variables : (bits : ℕ) (h : Head) (xs ys : List Head) → ys ≡ xs ++ h ∷ [] → ((v : ℕ) → has bits v ≡ some (head_has v) xs) →
-    (v : ℕ) → has (bind_head bits h) v ≡ some (head_has v) ys
+more_variables : (bits : ℕ) (h : Head) (xs ys : List Head) → ys ≡ xs ++ h ∷ [] → ((v : ℕ) → has bits v ≡ list_any (head_has v) xs) →
+    (v : ℕ) → has (bind_head bits h) v ≡ list_any (head_has v) ys
 more_variables bits h xs ys e f v =
-    has_head bits v h ∙ ap (λ (b : Bool). cond (head_has v h) true b) (f v) ∙ sym (some_push (head_has v) xs h) ∙ sym (ap (some (head_has v)) e)
+    has_head bits v h ∙ ap (λ (b : Bool). head_has v h || b) (f v) ∙ either_first (head_has v h) (list_any (head_has v) xs)
+    ∙ sym (list_any-append (head_has v) xs (h ∷ [])) ∙ sym (ap (list_any (head_has v)) e)
 
 -- words whose variables are among the bits have no free variable
 within_bound : (bits : ℕ) (r : Parts) (ws : List ℕ) → ((v : ℕ) → has bits v ≡ binds r v) → Within bits ws → AllByRecursion (λ w. free r w ≡ false) ws
