@@ -1,13 +1,13 @@
 -- What was read is what the loader promises.
-use Rattle.std.proofs.Common.{◌≡◌, ℕ, zero, suc, ◌-◌, ◌<◌, ◌≤◌, false, List, [], ◌∷◌, ◌++◌, length, take, Err, sym, ap, ◌∙◌, subst, arith, length-append}
-use Rattle.std.specs.List.{AllByRecursion}
+use Rattle.std.proofs.Common.{◌≡◌, ℕ, zero, suc, ◌-◌, ◌<◌, ◌≤◌, false, List, [], ◌∷◌, ◌++◌, map, length, take, Err, sym, ap, ◌∙◌, subst, arith, length-append}
 use Rattle.facts.specs.Lists.{Nth}
 use Rattle.grammar.specs.declared.reason.Reason.{Reason}
 use Rattle.grammar.specs.declared.reason.Reason.TheVariants.{OutOfTurn as TurnReason, StrayBit as BitReason, OutOfRange as RangeReason}
-use Rattle.grammar.specs.Parts.{Parts}
+use Rattle.grammar.specs.declared.rule.Rule.{Rule}
+use Rattle.grammar.specs.Parts.{Parts, parts}
 use Rattle.grammar.specs.Writing.{standard, Formed, tail_words, written}
 use Rattle.grammar.specs.Reading.{ok, no, read_table}
-use Rattle.grammar.specs.Faults.{Faulty}
+use Rattle.grammar.specs.Faults.{Faulty, rule_words_to}
 use Rattle.grammar.specs.Validity.{free, Sound, Rising, Valid, last_label}
 use Rattle.grammar.proofs.Codec.{table_all, table_only}
 use Rattle.grammar.proofs.Law.{faulty}
@@ -15,8 +15,7 @@ use Rattle.rules.specs.declared.refusal.LoadFault.{LoadFault}
 use Rattle.rules.specs.declared.refusal.LoadFault.TheVariants.{OutOfTurn, StrayBit, OutOfRange, Unbound, NoTaken, Label}
 use Rattle.rules.specs.Faults.{RuleFault, FirstFault}
 use Rattle.rules.specs.declared.refusal.Refusal.{Refusal}
-use Rattle.rules.specs.declared.fault.Fault.{Fault}
-use Rattle.rules.specs.Loading.{fault_of, Wrong, Told, Loads, Accepts}
+use Rattle.rules.specs.Loading.{fault_of, Wrong, Loads}
 use Rattle.facts.proofs.Nths.{all_nth}
 
 wrong_word : (ws : List ℕ) (place : ℕ) (r : Reason) → Faulty ws place r → Wrong ws (fault_of r) place
@@ -29,20 +28,16 @@ module _ (ws : List ℕ) (r : Reason) (n : ℕ) (h : read_table standard ws ≡ 
   word_wrong : Wrong ws (fault_of r) (length ws - n)
   word_wrong = wrong_word ws (length ws - n) r (faulty ws r n h).1
 
-  word_accepts : (rs : List Parts) (us : List ℕ) → Valid rs → ws ≡ written rs ++ us → ⊥
+  pub word_accepts : (rs : List Parts) (us : List ℕ) → Valid rs → ws ≡ written rs ++ us → ⊥
   word_accepts rs us v e = (faulty ws r n h).1.none (rs, us, v.formed, e)
 
--- the loader's refusal is the reader's
-module _ (ws : List ℕ) (f : Fault) (x : Refusal) (h : read_table standard ws ≡ no f.reason f.left) where
-  pub refused_loads : Told ws f x → Loads ws (Err x)
-  refused_loads t = (
-    subst (λ (fault : LoadFault). Wrong ws fault x.place) (sym t.0)
-        (subst (λ (n : ℕ). Wrong ws (fault_of f.reason) n) (sym t.1) (word_wrong ws f.reason f.left h)),
-    t.2,
+  -- the loader's refusal is the reader's
+  pub refused_loads : (x : Refusal) → x.fault ≡ fault_of r → x.place ≡ length ws - n → x.rules ≡ rule_words_to ws x.place → Loads ws (Err x)
+  refused_loads x f p k = (
+    subst (λ (fault : LoadFault). Wrong ws fault x.place) (sym f)
+        (subst (λ (m : ℕ). Wrong ws (fault_of r) m) (sym p) word_wrong),
+    k,
   )
-
-  pub refused_accepts : Accepts ws (Err x)
-  refused_accepts = word_accepts ws f.reason f.left h
 
 rising_at : (n : ℕ) (rs : List Parts) (i : ℕ) (r : Parts) → Rising n rs → Nth rs i r → last_label n (take i rs) < r.label
 rising_at n [] i r h k = absurd k
@@ -61,6 +56,10 @@ fault_rule r last Unbound n f s l =
 fault_rule r last NoTaken n f s l = omega (arith, f.1, s.takes)
 fault_rule r last Label n f s l = omega (arith, f.1)
 
+-- the rules that were read, as the slice that was lent
+pub lent : (ws vs : List ℕ) (rules slice : List Rule) → read_table standard ws ≡ ok (map parts rules) vs → slice ≡ rules → read_table standard ws ≡ ok (map parts slice) vs
+lent ws vs rules slice h e = h ∙ sym (ap (λ (rs : List Rule). ok (map parts rs) vs) e)
+
 -- a table was read
 module _ (ws : List ℕ) (qs : List Parts) (vs : List ℕ) (h : read_table standard ws ≡ ok qs vs) where
   pub table_formed : Formed standard qs
@@ -75,10 +74,6 @@ module _ (ws : List ℕ) (qs : List Parts) (vs : List ℕ) (h : read_table stand
   pub table_used : length ws - length vs ≡ length (written qs)
   table_used = omega (arith, ap length table_words, length-append (written qs) vs)
 
-  -- no rule has a fault
-  pub table_valid : AllByRecursion Sound qs × Rising 0 qs → Valid qs
-  table_valid s = record { formed = table_formed; sound = s.0; rising = s.1 }
-
   -- words are the writing of one table at most
   pub table_same : (rs : List Parts) (us : List ℕ) → Valid rs → ws ≡ written rs ++ us → qs ≡ rs
   table_same rs us v e =
@@ -86,13 +81,20 @@ module _ (ws : List ℕ) (qs : List Parts) (vs : List ℕ) (h : read_table stand
       let b : read_table standard ws ≡ ok rs us = ap (read_table standard) e ∙ a in
       cc
 
-  pub fault_wrong : (fault : LoadFault) (place : ℕ) → FirstFault qs fault place → Wrong ws fault place
-  fault_wrong OutOfTurn place f = absurd f.wrong
-  fault_wrong StrayBit place f = absurd f.wrong
-  fault_wrong OutOfRange place f = absurd f.wrong
-  fault_wrong Unbound place f = (qs, vs, table_formed, table_words, f)
-  fault_wrong NoTaken place f = (qs, vs, table_formed, table_words, f)
-  fault_wrong Label place f = (qs, vs, table_formed, table_words, f)
+  wrong_rule : (fault : LoadFault) (place : ℕ) → FirstFault qs fault place → Wrong ws fault place
+  wrong_rule OutOfTurn place f = absurd f.wrong
+  wrong_rule StrayBit place f = absurd f.wrong
+  wrong_rule OutOfRange place f = absurd f.wrong
+  wrong_rule Unbound place f = (qs, vs, table_formed, table_words, f)
+  wrong_rule NoTaken place f = (qs, vs, table_formed, table_words, f)
+  wrong_rule Label place f = (qs, vs, table_formed, table_words, f)
+
+  pub fault_loads : (x : Refusal) (fault : LoadFault) (place : ℕ) → FirstFault qs fault place →
+      x.fault ≡ fault → x.place ≡ place → x.rules ≡ rule_words_to ws place → Loads ws (Err x)
+  fault_loads x fault place w f p k = (
+    subst (λ (g : LoadFault). Wrong ws g x.place) (sym f) (subst (λ (n : ℕ). Wrong ws fault n) (sym p) (wrong_rule fault place w)),
+    k ∙ ap (rule_words_to ws) (sym p),
+  )
 
   pub fault_accepts : (fault : LoadFault) (place : ℕ) → FirstFault qs fault place → (rs : List Parts) (us : List ℕ) → Valid rs → ws ≡ written rs ++ us → ⊥
   fault_accepts fault place f rs us v e =

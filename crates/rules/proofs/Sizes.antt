@@ -12,7 +12,7 @@ use Rattle.grammar.specs.Parts.{Parts}
 use Rattle.grammar.specs.Writing.{standard, FormedRule}
 use Rattle.grammar.specs.Sizes.{term_size, head_size, guard_size, body_size, rule_size}
 
-term_few : (t : Term) → term_size t ≤ 3
+pub term_few : (t : Term) → term_size t ≤ 3
 term_few (Single a) = omega arith
 term_few (Sum a b) = omega arith
 term_few (Diff a b) = omega arith
@@ -23,7 +23,7 @@ amount_few (One a) = omega arith
 amount_few (Two a b) = omega arith
 amount_few (Three a b c) = omega arith
 
-terms_few : (xs : Args Term) → sum_by term_size (listed xs) ≤ 9
+pub terms_few : (xs : Args Term) → sum_by term_size (listed xs) ≤ 9
 terms_few Zero = omega arith
 terms_few (One a) = omega (arith, term_few a)
 terms_few (Two a b) = omega (arith, term_few a, term_few b)

@@ -1,43 +1,14 @@
 -- What one step of the code does to what is still to be read.
-use Rattle.std.proofs.Common.{◌≡◌, ℕ, zero, suc, ◌+◌, ◌-◌, ◌<◌, ◌≤◌, true, false, eqb, ltb, List, [], ◌∷◌, ◌++◌, length, sym, refl, ap, ◌∙◌, append_assoc, append-nil, arith}
+use Rattle.std.proofs.Common.{◌≡◌, ℕ, zero, suc, ◌+◌, ◌-◌, ◌<◌, true, false, eqb, List, [], ◌∷◌, ◌++◌, length, sym, refl, ap, ◌∙◌, append_assoc, append-nil, arith}
 use Rattle.std.proofs.lemmas.Bool.Decides.{nat_tests}
-use Rattle.words.specs.Words.{kind_of, payload_of, clean, name_in, count_in, label_in}
+use Rattle.words.specs.Words.{kind_of, payload_of, clean, label_in}
 use Rattle.grammar.specs.declared.reason.Reason.{Reason}
-use Rattle.grammar.specs.declared.part.Operand.{Operand}
-use Rattle.grammar.specs.declared.part.Term.{Term}
-use Rattle.grammar.specs.declared.part.Test.{Test}
-use Rattle.args.specs.declared.Args.{Args}
 use Rattle.grammar.specs.Atoms.{Head, BodyFact}
 use Rattle.grammar.specs.declared.part.Guard.{Guard}
-use Rattle.grammar.specs.Reading.{Parsed, ok, no, then, read_operand, read_term, read_args, test_at, read_head, read_guard, read_body, read_parts, read_rule, read_rules}
+use Rattle.grammar.specs.Reading.{Parsed, ok, no, then, read_head, read_guard, read_body, read_parts, read_rule, read_rules}
 use Rattle.grammar.specs.Parts.{Parts}
 use Rattle.grammar.specs.Writing.{standard}
 use Rattle.rules.specs.Progress.{front}
-
-small : (n count : ℕ) → count ≡ count_in n → count ≤ 3 → ltb 3 (count_in n) ≡ false
-small n count e h = grind (arith, nat_tests)
-
-module _ (n count name : ℕ) (e : count ≡ count_in n) (f : name ≡ name_in n) (h : count ≤ 3) (ws us : List ℕ) where
-  pub head_ok : (xs : Args Operand) → read_args read_operand count ws ≡ ok xs us → read_head n ws ≡ ok (record { name = name; args = xs }) us
-  head_ok xs g =
-      let t : ltb 3 (count_in n) ≡ false = small n count e h in
-      let q : read_args read_operand (count_in n) ws ≡ ok xs us = ap (λ (m : ℕ). read_args read_operand m ws) (sym e) ∙ g in
-      rw (t, q) (ap (λ (m : ℕ). ok (record { name = m; args = xs }) us) (sym f))
-
-  pub body_ok : (xs : Args Term) → read_args read_term count ws ≡ ok xs us → read_body n ws ≡ ok (record { name = name; args = xs }) us
-  body_ok xs g =
-      let t : ltb 3 (count_in n) ≡ false = small n count e h in
-      let q : read_args read_term (count_in n) ws ≡ ok xs us = ap (λ (m : ℕ). read_args read_term m ws) (sym e) ∙ g in
-      rw (t, q) (ap (λ (m : ℕ). ok (record { name = m; args = xs }) us) (sym f))
-
-module _ (n number : ℕ) (e : number ≡ count_in n) (h : number ≤ 3) (ws us : List ℕ) (a : Term) (i : read_term ws ≡ ok a us) where
-  pub guard_ok : (test : Test) (b : Term) (vs : List ℕ) → test ≡ test_at number → read_term us ≡ ok b vs → read_guard n ws ≡ ok (record { test = test; left = a; right = b }) vs
-  guard_ok test b vs f j =
-      let t : ltb 3 (count_in n) ≡ false = small n number e h in
-      rw (t, i, j) (ap (λ (m : Test). ok (record { test = m; left = a; right = b }) vs) (ap test_at (sym e) ∙ sym f))
-
-  pub guard_no : (r : Reason) (k : ℕ) → read_term us ≡ no r k → read_guard n ws ≡ no r k
-  guard_no r k j = let t : ltb 3 (count_in n) ≡ false = small n number e h in rw (t, i, j)
 
 joined_front : {A : Type 0} (xs : List A) (a : A) (q : Parsed (List A)) → front xs (then q (λ ys us. ok (a ∷ ys) us)) ≡ front (xs ++ a ∷ []) q
 joined_front {A} xs a (ok ys us) = ap (λ (zs : List A). ok zs us) (simp append_assoc)
@@ -74,19 +45,22 @@ pub front_no : {A : Type 0} (xs : List A) (p : Parsed (List A)) (r : Reason) (n 
 front_no {A} xs (ok ys us) r n h = absurd (let z : ◌≡◌ {A = ℕ} 0 1 = cc in omega arith)
 front_no xs (no q m) r n h = h
 
--- a rule, part after part
+-- a rule, part after part; the code counts the kept heads as k and as m, and the taken ones as n
 module _ (label : ℕ) (ws : List ℕ) (ks : List Head) (us : List ℕ) (h1 : read_parts read_head 2 3 ws ≡ ok ks us)
-    (ts : List Head) (vs : List ℕ) (h2 : read_parts read_head 3 (3 - length ks) us ≡ ok ts vs) (z : eqb (length ks + length ts) 0 ≡ false) where
-  pub rule_no_guards : (r : Reason) (n : ℕ) → read_parts read_guard 4 4 vs ≡ no r n → read_rule standard label ws ≡ no r n
-  rule_no_guards r n h = rw (h1, h2, z, h)
+    (k : ℕ) (ek : k ≡ length ks) (ts : List Head) (vs : List ℕ) (h2 : read_parts read_head 3 (3 - k) us ≡ ok ts vs)
+    (m n : ℕ) (em : m ≡ length ks) (en : n ≡ length ts) (z : m + n ≡ 0 → ⊥) (gs : List Guard) (xs : List ℕ) (h3 : read_parts read_guard 4 4 vs ≡ ok gs xs) where
+  taken : read_parts read_head 3 (3 - length ks) us ≡ ok ts vs
+  taken = ap (λ (k : ℕ). read_parts read_head 3 (3 - k) us) (sym ek) ∙ h2
 
-  pub rule_no_body : (gs : List Guard) (xs : List ℕ) → read_parts read_guard 4 4 vs ≡ ok gs xs →
-      (r : Reason) (n : ℕ) → read_parts read_body 5 3 xs ≡ no r n → read_rule standard label ws ≡ no r n
-  rule_no_body gs xs h3 r n h = rw (h1, h2, z, h3, h)
+  some_head : eqb (length ks + length ts) 0 ≡ false
+  some_head = grind (arith, nat_tests)
 
-  pub rule_ok : (gs : List Guard) (xs : List ℕ) → read_parts read_guard 4 4 vs ≡ ok gs xs → (bs : List BodyFact) (ys : List ℕ) → read_parts read_body 5 3 xs ≡ ok bs ys →
+  pub rule_no_body : (r : Reason) (left : ℕ) → read_parts read_body 5 3 xs ≡ no r left → read_rule standard label ws ≡ no r left
+  rule_no_body r left h = rw (h1, taken, some_head, h3, h)
+
+  pub rule_ok : (bs : List BodyFact) (ys : List ℕ) → read_parts read_body 5 3 xs ≡ ok bs ys →
       read_rule standard label ws ≡ ok (record { label = label; kept = ks; taken = ts; guards = gs; body = bs }) ys
-  rule_ok gs xs h3 bs ys h4 = rw (h1, h2, z, h3, h4)
+  rule_ok bs ys h4 = rw (h1, taken, some_head, h3, h4)
 
 -- rules, where a RULE word stands next
 pub rules_more : (room : ℕ) (xs : List Parts) (ws : List ℕ) (w : ℕ) (vs : List ℕ) → ws ≡ w ∷ vs → kind_of w ≡ 1 → clean w ≡ true → 0 < room →

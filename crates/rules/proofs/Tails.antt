@@ -1,17 +1,18 @@
 -- The words of a rule after its heads, and its faults.
-use Rattle.std.proofs.Common.{◌≡◌, ℕ, suc, ◌-◌, ◌<◌, ◌≤◌, true, false, List, [], ◌∷◌, ◌++◌, length, get_or, take, drop, sym, refl, ap, ◌∙◌, subst, arith, length-append, length-drop}
-use Rattle.std.specs.List.{AllByRecursion}
+use Rattle.std.proofs.Common.{◌≡◌, ℕ, suc, ◌-◌, ◌≤◌, false, List, [], ◌∷◌, ◌++◌, length, Some, None, get_or, take, drop, sym, refl, ap, ◌∙◌, subst, arith, length-append, length-drop}
+use Rattle.std.specs.List.{position, AllByRecursion}
 use Rattle.std.proofs.lemmas.List.{take_all}
 use Rattle.facts.specs.Lists.{Nth}
 use Rattle.facts.proofs.Nths.{nth_within, nth_get_or}
 use Rattle.grammar.specs.Parts.{Parts}
 use Rattle.grammar.specs.Sizes.{heads_size, rule_size}
-use Rattle.grammar.specs.Validity.{free, FirstFree}
+use Rattle.grammar.specs.Validity.{free, Bound, FirstFree}
 use Rattle.grammar.specs.Writing.{heads_words, tail_words, rule_words}
 use Rattle.grammar.proofs.Sizes.{heads_length, rule_length}
 use Rattle.rules.specs.declared.refusal.LoadFault.{LoadFault}
 use Rattle.rules.specs.declared.refusal.LoadFault.TheVariants.{OutOfTurn, StrayBit, OutOfRange, Unbound, NoTaken, Label}
 use Rattle.rules.specs.Faults.{RuleFault}
+use Rattle.rules.proofs.Somes.{first_none, first_some}
 
 pub drop_front : (xs ys : List ℕ) → drop (length xs) (xs ++ ys) ≡ ys
 drop_front [] ys = refl
@@ -30,14 +31,18 @@ module _ (r : Parts) (ws : List ℕ) (n : ℕ) (e : ws ≡ rule_words r) (h : n 
       let d : drop n ws ≡ tail_words r = ap (λ (k : ℕ). drop k ws) m ∙ ap (drop (suc (length (heads_words r)))) e ∙ drop_front (heads_words r) (tail_words r) in
       take_all (length ws - n) (drop n ws) (simp length-drop (omega arith)) ∙ d
 
-  pub tail_free : (m : ℕ) (us : List ℕ) → us ≡ take (length ws - n) (drop n ws) → m < length us → free r (get_or us m 0) ≡ true → AllByRecursion (λ w. free r w ≡ false) (take m us) → FirstFree r m
-  tail_free m us f b t a =
-      let g : us ≡ tail_words r = f ∙ tail_slice in
+  pub tail_bound : position (free r) (take (length ws - n) (drop n ws)) ≡ None → Bound r
+  tail_bound p = subst (λ (xs : List ℕ). AllByRecursion (λ w. free r w ≡ false) xs) tail_slice (first_none (free r) _ p)
+
+  pub tail_free : (m : ℕ) → position (free r) (take (length ws - n) (drop n ws)) ≡ Some m → FirstFree r m
+  tail_free m p =
+      let us = take (length ws - n) (drop n ws) in
+      let f = first_some (free r) us m p in
       record {
         word = get_or us m 0;
-        stands = subst (λ (xs : List ℕ). Nth xs m (get_or us m 0)) g (nth_get_or us m 0 b);
-        unbound = t;
-        first = subst (λ (xs : List ℕ). AllByRecursion (λ w. free r w ≡ false) (take m xs)) g a;
+        stands = subst (λ (xs : List ℕ). Nth xs m (get_or us m 0)) tail_slice (nth_get_or us m 0 f.0);
+        unbound = f.1;
+        first = subst (λ (xs : List ℕ). AllByRecursion (λ w. free r w ≡ false) (take m xs)) tail_slice f.2;
       }
 
 -- a fault's word is one of the rule's

@@ -7,24 +7,24 @@ use Rattle.facts.specs.Lists.{Nth}
 use Rattle.grammar.specs.declared.rule.Rule.{Rule}
 use Rattle.grammar.specs.Parts.{Parts, parts}
 use Rattle.grammar.specs.Sizes.{rule_size}
-use Rattle.grammar.specs.Validity.{Sound, Rising, last_label, rule_at}
-use Rattle.grammar.specs.Writing.{rule_words, written}
+use Rattle.grammar.specs.Validity.{Sound, Rising, Valid, last_label, rule_at}
+use Rattle.grammar.specs.Writing.{standard, Formed, FormedRule, rule_words, written}
 use Rattle.grammar.proofs.Sizes.{rule_length}
-use Rattle.rules.proofs.Tails.{drop_front}
+use Rattle.rules.proofs.Tails.{drop_front, fault_within}
+use Rattle.rules.specs.declared.refusal.LoadFault.{LoadFault}
+use Rattle.rules.specs.Faults.{RuleFault, FirstFault}
+use Rattle.std.proofs.lemmas.List.{take_all, length-map}
+use Rattle.facts.proofs.Nths.{all_nth}
 
 take_nth : {A : Type 0} (xs : List A) (i : ℕ) (x : A) → Nth xs i x → take (suc i) xs ≡ take i xs ++ x ∷ []
 take_nth [] i x n = absurd n
 take_nth {A} (y ∷ ys) zero x n = ap (λ (z : A). z ∷ []) n
 take_nth {A} (y ∷ ys) (suc i) x n = ap (λ (zs : List A). y ∷ zs) (take_nth ys i x n)
 
--- the rule that the loop reads
-pub rule_nth : (xs ys : List Rule) (i : ℕ) (r : Rule) → ys ≡ xs → i < length ys → r ≡ get_or ys i r → Nth (map parts xs) i (parts r)
-rule_nth xs ys i r e h g = subst (λ (zs : List Rule). Nth (map parts zs) i (parts r)) e (go ys i h g)
-  where
-    go : (zs : List Rule) (k : ℕ) → k < length zs → r ≡ get_or zs k r → Nth (map parts zs) k (parts r)
-    go [] k h g = absurd (omega arith)
-    go (z ∷ zs) zero h g = ap parts (sym g)
-    go (z ∷ zs) (suc k) h g = go zs k (omega arith) g
+rule_nth : (rs : List Rule) (i : ℕ) (r : Rule) → i < length rs → r ≡ get_or rs i r → Nth (map parts rs) i (parts r)
+rule_nth [] i r h g = absurd (omega arith)
+rule_nth (q ∷ rs) zero r h g = ap parts (sym g)
+rule_nth (q ∷ rs) (suc i) r h g = rule_nth rs i r (omega arith) g
 
 rising_push : (n : ℕ) (xs : List Parts) (r : Parts) → Rising n xs → last_label n xs < r.label → Rising n (xs ++ r ∷ [])
 rising_push n [] r h l = (l, tt)
@@ -51,7 +51,7 @@ parted (q ∷ rs) (suc i) r us n =
     )
 
 module _ (rs : List Parts) (i : ℕ) (r : Parts) (n : Nth rs i r) where
-  pub at_more : (at size : ℕ) → at ≡ rule_at rs i → size ≡ rule_size r → at + size ≡ rule_at rs (i + 1)
+  at_more : (at size : ℕ) → at ≡ rule_at rs i → size ≡ rule_size r → at + size ≡ rule_at rs (i + 1)
   at_more at size e f =
       let g : rule_at rs (i + 1) ≡ rule_at rs i + length (rule_words r)
       = ap (λ (k : ℕ). length (flat_map rule_words (take k rs))) (add-one i)
@@ -61,19 +61,19 @@ module _ (rs : List Parts) (i : ℕ) (r : Parts) (n : Nth rs i r) where
       ∙ ap (λ (k : ℕ). rule_at rs i + k) (length-append (rule_words r) [] ∙ omega arith) in
       omega (arith, rule_length r)
 
-  pub sound_more : AllByRecursion Sound (take i rs) → Sound r → AllByRecursion Sound (take (i + 1) rs)
+  sound_more : AllByRecursion Sound (take i rs) → Sound r → AllByRecursion Sound (take (i + 1) rs)
   sound_more a s =
       subst (λ (v : List Parts). AllByRecursion Sound v) (sym (ap (λ (k : ℕ). take k rs) (add-one i) ∙ take_nth rs i r n)) (All-push Sound (take i rs) r a s)
 
-  pub rising_more : Rising 0 (take i rs) → last_label 0 (take i rs) < r.label → Rising 0 (take (i + 1) rs)
+  rising_more : Rising 0 (take i rs) → last_label 0 (take i rs) < r.label → Rising 0 (take (i + 1) rs)
   rising_more h l =
       subst (λ (v : List Parts). Rising 0 v) (sym (ap (λ (k : ℕ). take k rs) (add-one i) ∙ take_nth rs i r n)) (rising_push 0 (take i rs) r h l)
 
-  pub last_more : r.label ≡ last_label 0 (take (i + 1) rs)
+  last_more : r.label ≡ last_label 0 (take (i + 1) rs)
   last_more = sym (ap (λ (v : List Parts). last_label 0 v) (ap (λ (k : ℕ). take k rs) (add-one i) ∙ take_nth rs i r n) ∙ last_push 0 (take i rs) r)
 
   module _ (us ws : List ℕ) (e : ws ≡ written rs ++ us) (at size : ℕ) (f : at ≡ rule_at rs i) (g : size ≡ rule_size r) where
-    pub rule_within : at + size ≤ length ws
+    rule_within : at + size ≤ length ws
     rule_within =
         let p = parted rs i r us n in
         let l : length ws ≡ length (flat_map rule_words (take i rs)) + (length (rule_words r) + length p.0)
@@ -81,10 +81,68 @@ module _ (rs : List Parts) (i : ℕ) (r : Parts) (n : Nth rs i r) where
         ∙ ap (λ (k : ℕ). length (flat_map rule_words (take i rs)) + k) (length-append (rule_words r) p.0) in
         omega (arith, rule_length r)
 
-    pub rule_slice : take (at + size - at) (drop at ws) ≡ rule_words r
+    rule_slice : take (at + size - at) (drop at ws) ≡ rule_words r
     rule_slice =
         let p = parted rs i r us n in
         let d : drop at ws ≡ rule_words r ++ p.0
         = ap (λ (k : ℕ). drop k ws) f ∙ ap (drop (rule_at rs i)) (e ∙ p.1) ∙ drop_front (flat_map rule_words (take i rs)) (rule_words r ++ p.0) in
         let m : at + size - at ≡ length (rule_words r) = omega (arith, rule_length r) in
         ap (λ (k : ℕ). take k (drop at ws)) m ∙ ap (take (length (rule_words r))) d ∙ take-append_seam (rule_words r) p.0
+
+-- the rules before the i-th have no fault; where its words begin, and the label before it
+pub record Walked (rs : List Parts) (i at last : ℕ) : Type 0 where
+  pub begins : at ≡ rule_at rs i
+  pub label : last ≡ last_label 0 (take i rs)
+  pub sound : AllByRecursion Sound (take i rs)
+  pub rising : Rising 0 (take i rs)
+
+-- a step of the walk: the rule that the loop reads
+module _ (rs : List Rule) (ws : List ℕ) (f : Formed standard (map parts rs)) (b : (us : List ℕ) × (ws ≡ written (map parts rs) ++ us))
+    (i at last : ℕ) (w : Walked (map parts rs) i at last) (r : Rule) (h : i < length rs) (g : r ≡ get_or rs i r) where
+  here : Nth (map parts rs) i (parts r)
+  here = rule_nth rs i r h g
+
+  pub rule_formed : FormedRule standard (parts r)
+  rule_formed = all_nth (FormedRule standard) (map parts rs) i (parts r) f.each here
+
+  pub rule_found : (fault : LoadFault) (offset : ℕ) → RuleFault (parts r) last fault offset → FirstFault (map parts rs) fault (at + offset)
+  rule_found fault offset k =
+      record {
+        index = i;
+        rule = parts r;
+        offset = offset;
+        stands = here;
+        sound = w.sound;
+        rising = w.rising;
+        wrong = subst (λ (n : ℕ). RuleFault (parts r) n fault offset) w.label k;
+        at = ap (λ (n : ℕ). n + offset) w.begins;
+      }
+
+  module _ (size : ℕ) (e : size ≡ rule_size (parts r)) where
+    pub rule_inside : at + size ≤ length ws
+    rule_inside = rule_within (map parts rs) i (parts r) here b.0 ws b.1 at size w.begins e
+
+    pub rule_written : take (at + size - at) (drop at ws) ≡ rule_words (parts r)
+    rule_written = rule_slice (map parts rs) i (parts r) here b.0 ws b.1 at size w.begins e
+
+    pub fault_inside : (fault : LoadFault) (offset : ℕ) → RuleFault (parts r) last fault offset → at + offset ≤ length ws
+    fault_inside fault offset k = omega (arith, rule_inside, fault_within (parts r) last fault offset k)
+
+    pub walked_more : Sound (parts r) → last < r.label → Walked (map parts rs) (i + 1) (at + size) r.label
+    walked_more s l =
+        record {
+          begins = at_more (map parts rs) i (parts r) here at size w.begins e;
+          label = last_more (map parts rs) i (parts r) here;
+          sound = sound_more (map parts rs) i (parts r) here w.sound s;
+          rising = rising_more (map parts rs) i (parts r) here w.rising (subst (λ (n : ℕ). suc n ≤ r.label) w.label l);
+        }
+
+-- no rule is left
+pub walked_all : (rs : List Rule) (i at last : ℕ) → Formed standard (map parts rs) → Walked (map parts rs) i at last → length rs ≤ i → Valid (map parts rs)
+walked_all rs i at last f w h =
+    let e = take_all i (map parts rs) (omega (arith, length-map rs parts)) in
+    record {
+      formed = f;
+      sound = subst (λ (v : List Parts). AllByRecursion Sound v) e w.sound;
+      rising = subst (λ (v : List Parts). Rising 0 v) e w.rising;
+    }

@@ -1,5 +1,5 @@
 -- What loading words gives.
-use Rattle.std.specs.Prelude.{◌≡◌, ℕ, ◌-◌, List, ◌++◌, map, length, Ok, Err, Result}
+use Rattle.std.specs.Prelude.{◌≡◌, ℕ, List, ◌++◌, map, length, Ok, Err, Result}
 use Rattle.grammar.specs.declared.reason.Reason.{Reason}
 use Rattle.grammar.specs.declared.reason.Reason.TheVariants.{OutOfTurn as TurnReason, StrayBit as BitReason, OutOfRange as RangeReason}
 use Rattle.grammar.specs.Parts.{Parts, parts}
@@ -9,7 +9,6 @@ use Rattle.grammar.specs.Validity.{Valid}
 use Rattle.rules.specs.declared.refusal.LoadFault.{LoadFault}
 use Rattle.rules.specs.declared.refusal.LoadFault.TheVariants.{OutOfTurn, StrayBit, OutOfRange, Unbound, NoTaken, Label}
 use Rattle.rules.specs.declared.refusal.Refusal.{Refusal}
-use Rattle.rules.specs.declared.fault.Fault.{Fault}
 use Rattle.rules.specs.declared.table.Table.{Table}
 use Rattle.rules.specs.declared.loader.Loaded.{Loaded}
 use Rattle.rules.specs.Faults.{FirstFault}
@@ -60,8 +59,3 @@ Given rs (Err f) = ⊥
 -- words that begin with the writing of a valid table are accepted as that table
 abbrev pub Accepts : List ℕ → Result Loaded Refusal → Type 0
 Accepts ws r = (rs : List Parts) (us : List ℕ) → Valid rs → ws ≡ written rs ++ us → Given rs r
-
--- how a reader's refusal is told: the place is counted from the front
-abbrev pub Told : List ℕ → Fault → Refusal → Type 0
-Told ws f x =
-    (x.fault ≡ fault_of f.reason) × (x.place ≡ length ws - f.left) × (x.rules ≡ rule_words_to ws x.place)

@@ -1,6 +1,25 @@
--- What readers that fill a list have read so far.
-use Rattle.std.specs.Prelude.{List, ◌++◌}
-use Rattle.grammar.specs.Reading.{Parsed, ok, no}
+-- What readers give, and what those that fill a list have read so far.
+use Rattle.std.specs.Prelude.{◌≡◌, ℕ, suc, cond, nat_lt, List, ◌++◌, length, Ok, Err, Result}
+use Rattle.std.proofs.Common.{Bor}
+use Rattle.words.specs.Words.{name_in, count_in}
+use Rattle.grammar.specs.declared.reason.Reason.TheVariants.{OutOfRange}
+use Rattle.grammar.specs.declared.part.Atom.{Atom}
+use Rattle.grammar.specs.Reading.{Parsed, ok, no, then, read_args}
+use Rattle.rules.specs.declared.fault.Fault.{Fault}
+
+-- a reader's result: a value, seen as what was read, and the words after it; or the fault
+abbrev pub GivesAs : {A B : Type 0} → (A → B) → Parsed B → Result (A × Bor (List ℕ)) Fault → Type 0
+GivesAs view p (Ok x) = p ≡ ok (view x.0) x.1.now
+GivesAs view p (Err fault) = p ≡ no fault.reason fault.left
+
+abbrev pub Gives : {A : Type 0} → Parsed A → Result (A × Bor (List ℕ)) Fault → Type 0
+Gives p r = GivesAs (λ x. x) p r
+
+-- the rest of a head or a body fact, by how its arguments are read
+abbrev pub read_atom : {A : Type 0} → (List ℕ → Parsed A) → ℕ → List ℕ → Parsed (Atom A)
+read_atom read n ws =
+    cond (nat_lt 3 (count_in n)) (no OutOfRange (suc (length ws)))
+    (then (read_args read (count_in n) ws) (λ xs us. ok (record { name = name_in n; args = xs }) us))
 
 -- what was read, after values read before
 abbrev pub front : {A : Type 0} → List A → Parsed (List A) → Parsed (List A)

@@ -1,15 +1,13 @@
-ghost use Rattle.std.specs.Prelude.{◌≡◌, ℕ, ◌+◌, ◌-◌, ◌*◌, ◌/◌, ◌%◌, ◌^◌, ◌<◌, ◌≤◌, true, false, List, [], ◌∷◌, ◌++◌, map, length, take, sum_by, MatchOption, slice_index};
-ghost use Rattle.std.specs.List.{AllByRecursion};
-ghost use Rattle.arrayvec.specs.ArrayVec.{array_vec_len};
+ghost use Rattle.std.specs.Prelude.{◌≡◌, ◌+◌, ◌<◌, ◌≤◌, ℕ, List, ◌++◌, map, length, sum_by, position, IfNone, IfSome};
 ghost use Rattle.grammar.specs.Parts.{parts};
 ghost use Rattle.grammar.specs.Sizes.{heads_size, rule_size};
-ghost use Rattle.grammar.specs.Validity.{some, is_var, head_has, binds, free, Sound, Rising};
+ghost use Rattle.grammar.specs.Validity.{is_var, head_has, binds, free, Sound, Valid};
 ghost use Rattle.grammar.specs.Writing.{standard, FormedRule, Formed, rule_words, written};
 ghost use Rattle.rules.specs.Faults.{RuleFault, FirstFault};
 
 use crate::part::Part;
 use crate::refusal::LoadFault;
-use grammar::{Args, Head, Operand, Rule};
+use grammar::{Head, Operand, Rule};
 use words::{Kind, Word};
 
 // How many words a few parts are written as.
@@ -32,14 +30,9 @@ fn is_variable(operand: Operand, variable: u32) -> bool
 fn head_has(head: Head, variable: u32) -> bool
     ensures { result ≡ head_has variable head }
 {
-    match head.args {
-        Args::Zero => false,
-        Args::One(a) => is_variable(a, variable),
-        Args::Two(a, b) => is_variable(a, variable) || is_variable(b, variable),
-        Args::Three(a, b, c) => is_variable(a, variable)
-            || is_variable(b, variable)
-            || is_variable(c, variable),
-    }
+    head.args
+        .into_iter()
+        .any(|operand| is_variable(operand, variable))
 }
 
 // Whether a variable stands in a head of the rule.
@@ -62,14 +55,9 @@ fn is_free(rule: &Rule, bits: u32) -> bool
 
 // The first of the words that is a free variable.
 fn first_free(rule: &Rule, ws: &[u32]) -> Option<usize>
-    ensures { MatchOption result (AllByRecursion (λ w. free (parts rule.now) w ≡ false) ws.now) (λ n. (n < length ws.now) × (free (parts rule.now) (slice_index ws.now n) ≡ true) × AllByRecursion (λ w. free (parts rule.now) w ≡ false) (take n ws.now)) }
+    ensures { result ≡ position (free (parts rule.now)) ws.now }
 {
-    for (i, word) in ws.iter().enumerate() {
-        if is_free(rule, *word) {
-            return Some(i);
-        }
-    }
-    None
+    ws.iter().position(|word| is_free(rule, *word))
 }
 
 // How many words a well-formed rule's RULE word and heads are written as.
@@ -93,7 +81,9 @@ fn rule_size(rule: &Rule) -> usize
 fn rule_fault(rule: &Rule, last: u16, ws: &[u32]) -> Option<(LoadFault, usize)>
     requires formed { FormedRule standard (parts rule.now) }
     requires words { ws.now ≡ rule_words (parts rule.now) }
-    ensures { MatchOption result (Sound (parts rule.now) × (last < rule.now.label)) (λ x. RuleFault (parts rule.now) last x.0 x.1) }
+    ensures sound { IfNone result (Sound (parts rule.now)) }
+    ensures rises { IfNone result (last < rule.now.label) }
+    ensures fault { IfSome result (λ x. RuleFault (parts rule.now) last x.0 x.1) }
 {
     let heads = heads_size(rule);
     if let Some(n) = first_free(rule, &ws[heads..]) {
@@ -112,7 +102,8 @@ fn rule_fault(rule: &Rule, last: u16, ws: &[u32]) -> Option<(LoadFault, usize)>
 pub(crate) fn first_fault(rules: &[Rule], ws: &[u32]) -> Option<(LoadFault, usize)>
     requires formed { Formed standard (map parts rules.now) }
     requires begins { (us : List ℕ) × (ws.now ≡ written (map parts rules.now) ++ us) }
-    ensures { MatchOption result (AllByRecursion Sound (map parts rules.now) × Rising 0 (map parts rules.now)) (λ x. FirstFault (map parts rules.now) x.0 x.1) }
+    ensures valid { IfNone result (Valid (map parts rules.now)) }
+    ensures fault { IfSome result (λ x. FirstFault (map parts rules.now) x.0 x.1) }
 {
     let mut at = 0;
     let mut last = 0;

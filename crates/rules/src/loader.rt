@@ -1,19 +1,16 @@
-ghost use Rattle.std.specs.Prelude.{◌≡◌, ℕ, ◌+◌, ◌-◌, ◌*◌, ◌/◌, ◌%◌, ◌^◌, ◌<◌, ◌≤◌, List, [], ◌∷◌, ◌++◌, map, length, vec_len, count_by, nat_eq};
+ghost use Rattle.std.specs.Prelude.{◌≡◌, ◌-◌, length, count_by, nat_eq};
 ghost use Rattle.words.specs.Words.{kind_of};
 ghost use Rattle.grammar.specs.Faults.{rule_words_to};
 ghost use Rattle.grammar.specs.Validity.{Valid};
-ghost use Rattle.rules.specs.Loading.{rules_of, fault_of, Told, Loads, Accepts};
+ghost use Rattle.rules.specs.Loading.{rules_of, fault_of, Loads, Accepts};
 
 use crate::check::first_fault;
 use crate::fault::Fault;
 use crate::refusal::{LoadFault, Refusal};
-use crate::rule::read_rules;
+use crate::rule::read_table;
 use crate::table::Table;
-use arrayvec::ArrayVec;
-use grammar::{Reason, Rule};
+use grammar::Rule;
 use words::{Kind, Word};
-
-const MOST_RULES: usize = 32;
 
 // An accepted table, and how many words it took.
 #[derive(Drop)]
@@ -59,21 +56,14 @@ fn refusal(fault: LoadFault, place: usize, ws: &[u32]) -> Refusal
     }
 }
 
-fn fault_of(reason: Reason) -> LoadFault
-    ensures { result ≡ fault_of reason }
-{
-    match reason {
-        Reason::OutOfTurn => LoadFault::OutOfTurn,
-        Reason::StrayBit => LoadFault::StrayBit,
-        Reason::OutOfRange => LoadFault::OutOfRange,
-    }
-}
-
-fn told(fault: Fault, ws: &[u32]) -> Refusal
-    ensures { Told ws.now fault result }
+// The refusal of a faulty word: its place is counted from the front.
+fn refused(fault: Fault, ws: &[u32]) -> Refusal
+    ensures fault { result.fault ≡ fault_of fault.reason }
+    ensures place { result.place ≡ length ws.now - fault.left }
+    ensures rules { result.rules ≡ rule_words_to ws.now result.place }
 {
     let place = ws.len().saturating_sub(fault.left);
-    refusal(fault_of(fault.reason), place, ws)
+    refusal(fault.reason.into(), place, ws)
 }
 
 // Loads the table that the words begin with.
@@ -81,10 +71,10 @@ pub fn load(words: &[u32]) -> Result<Loaded, Refusal>
     ensures loads { Loads words.now result }
     ensures accepts { Accepts words.now result }
 {
-    let mut rules = ArrayVec::new();
-    let rest = match read_rules(&mut rules, MOST_RULES, words) {
-        Ok(rest) => rest,
-        Err(fault) => return Err(told(fault, words)),
+    let (rules, rest) = match read_table(words) {
+        Ok(read) => read,
+        // No map_err: what its closure gave didn't reach the proof of the place.
+        Err(fault) => return Err(refused(fault, words)),
     };
     if let Some((fault, place)) = first_fault(&rules, words) {
         return Err(refusal(fault, place, words));

@@ -1,25 +1,16 @@
-ghost use Rattle.std.specs.Prelude.{◌≡◌, ℕ, ◌+◌, ◌-◌, ◌*◌, ◌/◌, ◌%◌, ◌^◌, ◌<◌, ◌≤◌, List, [], ◌∷◌, length, MatchResult};
-ghost use Rattle.grammar.specs.Reading.{Parsed, ok, no, test_at, read_head, read_guard, read_body};
-ghost use Rattle.grammar.specs.Sizes.{term_size, head_size, guard_size, body_size};
+ghost use Rattle.std.specs.Prelude.{◌≡◌, ℕ, ◌+◌, ◌≤◌, List};
+ghost use Rattle.grammar.specs.Reading.{Parsed, test_at, read_guard};
+ghost use Rattle.grammar.specs.Sizes.{guard_size};
+ghost use Rattle.rules.specs.Progress.{Gives, read_atom};
 
 use crate::fault::Fault;
-use crate::read::{read_args, read_term};
-use grammar::{Args, BodyFact, Guard, Head, Reason, Term, Test};
+use crate::read::{Argument, read_args, read_term, term_size};
+use grammar::{Atom, Guard, Reason, Test};
 use words::Word;
 
 const MOST_ARGS: u8 = 3;
 
 const LAST_TEST: u8 = 3;
-
-fn term_size(term: Term) -> usize
-    ensures value { result ≡ term_size term }
-    ensures bound { result ≤ 3 }
-{
-    match term {
-        Term::One(_) => 1,
-        Term::Sum(_, _) | Term::Diff(_, _) => 3,
-    }
-}
 
 // A part of a rule, read after its first word.
 pub(crate) trait Part: Copy {
@@ -33,76 +24,28 @@ pub(crate) trait Part: Copy {
         ensures bound { result ≤ 10 };
 
     fn read_rest(first: Word, ws: &[u32]) -> Result<(Self, &[u32]), Fault>
-        ensures { MatchResult result (λ x. reads first.payload ws.now ≡ ok x.0 x.1.now) (λ e. reads first.payload ws.now ≡ no e.reason e.left) };
+        ensures { Gives (reads first.payload ws.now) result };
 }
 
-impl Part for Head {
-    ghost reads = { read_head };
+impl<A: Argument> Part for Atom<A> {
+    ghost reads = { read_atom A.Argument.reads };
 
-    ghost words = { head_size };
+    ghost words = { λ atom. 1 + A.Argument.words atom.args };
 
     fn size(self) -> usize {
-        match self.args {
-            Args::Zero => 1,
-            Args::One(_) => 2,
-            Args::Two(_, _) => 3,
-            Args::Three(_, _, _) => 4,
-        }
+        1 + A::total(self.args)
     }
 
-    fn read_rest(first: Word, ws: &[u32]) -> Result<(Head, &[u32]), Fault> {
+    fn read_rest(first: Word, ws: &[u32]) -> Result<(Atom<A>, &[u32]), Fault> {
         let count = first.count();
-        if count > MOST_ARGS {
-            return Err(Fault {
-                reason: Reason::OutOfRange,
-                left: ws.len() + 1,
-            });
-        }
+        Fault::unless(count <= MOST_ARGS, Reason::OutOfRange, ws.len() + 1)?;
         let (args, rest) = read_args(count, ws)?;
-        Ok((
-            Head {
-                name: first.name(),
-                args,
-            },
-            rest,
-        ))
+        let name = first.name();
+        Ok((Atom { name, args }, rest))
     }
 }
 
-impl Part for BodyFact {
-    ghost reads = { read_body };
-
-    ghost words = { body_size };
-
-    fn size(self) -> usize {
-        match self.args {
-            Args::Zero => 1,
-            Args::One(a) => 1 + term_size(a),
-            Args::Two(a, b) => 1 + term_size(a) + term_size(b),
-            Args::Three(a, b, c) => 1 + term_size(a) + term_size(b) + term_size(c),
-        }
-    }
-
-    fn read_rest(first: Word, ws: &[u32]) -> Result<(BodyFact, &[u32]), Fault> {
-        let count = first.count();
-        if count > MOST_ARGS {
-            return Err(Fault {
-                reason: Reason::OutOfRange,
-                left: ws.len() + 1,
-            });
-        }
-        let (args, rest) = read_args(count, ws)?;
-        Ok((
-            BodyFact {
-                name: first.name(),
-                args,
-            },
-            rest,
-        ))
-    }
-}
-
-// The test of a number; the last for those above it.
+// The test of a number; the last for those above it. No TryFrom: Test and u8 are of other crates.
 fn test_at(number: u8) -> Test
     ensures { result ≡ test_at number }
 {
@@ -119,18 +62,14 @@ impl Part for Guard {
 
     ghost words = { guard_size };
 
+    #[tactic(auto, using(crate::proofs::Sizes::term_few))]
     fn size(self) -> usize {
         1 + term_size(self.left) + term_size(self.right)
     }
 
     fn read_rest(first: Word, ws: &[u32]) -> Result<(Guard, &[u32]), Fault> {
         let number = first.count();
-        if number > LAST_TEST {
-            return Err(Fault {
-                reason: Reason::OutOfRange,
-                left: ws.len() + 1,
-            });
-        }
+        Fault::unless(number <= LAST_TEST, Reason::OutOfRange, ws.len() + 1)?;
         let test = test_at(number);
         let (left, rest) = read_term(ws)?;
         let (right, rest) = read_term(rest)?;

@@ -1,8 +1,8 @@
-ghost use Rattle.std.specs.Prelude.{◌≡◌, ℕ, ◌+◌, ◌-◌, ◌*◌, ◌/◌, ◌%◌, ◌^◌, ◌<◌, ◌≤◌, List, [], ◌∷◌, length, MatchResult, OnOk};
+ghost use Rattle.std.specs.Prelude.{◌≡◌, ℕ, ◌+◌, ◌-◌, ◌*◌, ◌/◌, ◌%◌, ◌^◌, ◌<◌, ◌≤◌, List, [], ◌∷◌, length, MatchResult, OnOk, IfOk};
 ghost use Rattle.arrayvec.specs.ArrayVec.{array_vec_len};
 ghost use Rattle.words.specs.Words.{tag};
 ghost use Rattle.grammar.specs.Reading.{Parsed, ok, no, read_parts};
-ghost use Rattle.rules.specs.Progress.{front};
+ghost use Rattle.rules.specs.Progress.{GivesAs, front};
 
 use crate::fault::Fault;
 use crate::part::Part;
@@ -12,7 +12,7 @@ use grammar::Reason;
 use words::{Kind, Word};
 
 // Puts the parts of one kind that stand next after those read before, `room` more at most.
-pub(crate) fn read_more<'a, P: Part, const N: usize>(
+fn read_more<'a, P: Part, const N: usize>(
     parts: &mut ArrayVec<P, N>,
     kind: Kind,
     room: usize,
@@ -30,19 +30,24 @@ pub(crate) fn read_more<'a, P: Part, const N: usize>(
     if !word.is(kind) {
         return Ok(ws);
     }
-    if !word.is_clean() {
-        return Err(Fault {
-            reason: Reason::StrayBit,
-            left,
-        });
-    }
-    if room == 0 {
-        return Err(Fault {
-            reason: Reason::OutOfRange,
-            left,
-        });
-    }
+    Fault::unless(word.is_clean(), Reason::StrayBit, left)?;
+    Fault::unless(room > 0, Reason::OutOfRange, left)?;
     let (part, next) = P::read_rest(word, after)?;
     parts.push(part);
     read_more(parts, kind, room - 1, next)
+}
+
+// The parts of one kind that stand next, `room` at most.
+pub(crate) fn read_parts<P: Part + Default, const N: usize>(
+    kind: Kind,
+    room: usize,
+    ws: &[u32],
+) -> Result<(ArrayVec<P, N>, &[u32]), Fault>
+    requires { room ≤ N }
+    ensures reads { GivesAs (λ parts. parts.items) (read_parts P.Part.reads (tag kind) room ws.now) result }
+    ensures few { IfOk result (λ x. array_vec_len x.0 ≤ room) }
+{
+    let mut parts = ArrayVec::new();
+    let rest = read_more(&mut parts, kind, room, ws)?;
+    Ok((parts, rest))
 }

@@ -2,15 +2,17 @@ ghost use Rattle.std.specs.Prelude.{◌≡◌, ℕ, ◌+◌, ◌-◌, ◌*◌, �
 ghost use Rattle.arrayvec.specs.ArrayVec.{array_vec_len};
 ghost use Rattle.grammar.specs.Parts.{parts};
 ghost use Rattle.grammar.specs.Writing.{standard};
-ghost use Rattle.grammar.specs.Reading.{ok, no, read_rule, read_rules};
-ghost use Rattle.rules.specs.Progress.{front};
+ghost use Rattle.grammar.specs.Reading.{ok, no, read_rule, read_rules, read_table};
+ghost use Rattle.rules.specs.Progress.{GivesAs, front};
 
 use crate::fault::Fault;
-use crate::parts::read_more;
+use crate::parts::read_parts;
 use crate::read::first_rest;
 use arrayvec::ArrayVec;
 use grammar::{Reason, Rule};
 use words::{Kind, Word};
+
+const MOST_RULES: usize = 32;
 
 const MOST_HEADS: usize = 3;
 
@@ -20,22 +22,15 @@ const MOST_BODY: usize = 3;
 
 // The rest of a rule, given its label.
 pub(crate) fn read_rule(label: u16, ws: &[u32]) -> Result<(Rule, &[u32]), Fault>
-    ensures { MatchResult result (λ x. read_rule standard label ws.now ≡ ok (parts x.0) x.1.now) (λ e. read_rule standard label ws.now ≡ no e.reason e.left) }
+    ensures { GivesAs parts (read_rule standard label ws.now) result }
 {
-    let mut kept = ArrayVec::new();
-    let rest = read_more(&mut kept, Kind::Kept, MOST_HEADS, ws)?;
-    let mut taken = ArrayVec::new();
-    let rest = read_more(&mut taken, Kind::Taken, MOST_HEADS - kept.len(), rest)?;
+    let (kept, rest) = read_parts(Kind::Kept, MOST_HEADS, ws)?;
+    let (taken, rest) = read_parts(Kind::Taken, MOST_HEADS - kept.len(), rest)?;
     if kept.len() + taken.len() == 0 {
-        return Err(Fault {
-            reason: Reason::OutOfTurn,
-            left: rest.len(),
-        });
+        return Err(Fault::out_of_turn(rest.len()));
     }
-    let mut guards = ArrayVec::new();
-    let rest = read_more(&mut guards, Kind::Guard, MOST_GUARDS, rest)?;
-    let mut body = ArrayVec::new();
-    let rest = read_more(&mut body, Kind::Body, MOST_BODY, rest)?;
+    let (guards, rest) = read_parts(Kind::Guard, MOST_GUARDS, rest)?;
+    let (body, rest) = read_parts(Kind::Body, MOST_BODY, rest)?;
     Ok((
         Rule {
             label,
@@ -49,7 +44,7 @@ pub(crate) fn read_rule(label: u16, ws: &[u32]) -> Result<(Rule, &[u32]), Fault>
 }
 
 // Puts the rules up to END after those read before, `room` more at most; gives the words after END.
-pub(crate) fn read_rules<'a>(
+fn read_rules<'a>(
     rules: &mut ArrayVec<Rule, 32>,
     room: usize,
     ws: &'a [u32],
@@ -58,43 +53,29 @@ pub(crate) fn read_rules<'a>(
     ensures { MatchResult result (λ x. front (map parts rules.old.items) (read_rules standard room ws.now) ≡ ok (map parts rules.new.items) x.now) (λ e. front (map parts rules.old.items) (read_rules standard room ws.now) ≡ no e.reason e.left) }
 {
     let left = ws.len();
-    let Some((first, after)) = first_rest(ws) else {
-        return Err(Fault {
-            reason: Reason::OutOfTurn,
-            left,
-        });
-    };
+    let (first, after) = first_rest(ws).ok_or(Fault::out_of_turn(left))?;
     let word = Word::from(first);
     match word.kind {
         Kind::End => {
-            if !word.is_clean() {
-                return Err(Fault {
-                    reason: Reason::StrayBit,
-                    left,
-                });
-            }
+            Fault::unless(word.is_clean(), Reason::StrayBit, left)?;
             Ok(after)
         }
         Kind::Rule => {
-            if !word.is_clean() {
-                return Err(Fault {
-                    reason: Reason::StrayBit,
-                    left,
-                });
-            }
-            if room == 0 {
-                return Err(Fault {
-                    reason: Reason::OutOfRange,
-                    left,
-                });
-            }
+            Fault::unless(word.is_clean(), Reason::StrayBit, left)?;
+            Fault::unless(room > 0, Reason::OutOfRange, left)?;
             let (rule, next) = read_rule(word.label(), after)?;
             rules.push(rule);
             read_rules(rules, room - 1, next)
         }
-        _ => Err(Fault {
-            reason: Reason::OutOfTurn,
-            left,
-        }),
+        _ => Err(Fault::out_of_turn(left)),
     }
+}
+
+// The rules of the table that the words begin with, and the words after it.
+pub(crate) fn read_table(ws: &[u32]) -> Result<(ArrayVec<Rule, 32>, &[u32]), Fault>
+    ensures { GivesAs (λ rules. map parts rules.items) (read_table standard ws.now) result }
+{
+    let mut rules = ArrayVec::new();
+    let rest = read_rules(&mut rules, MOST_RULES, ws)?;
+    Ok((rules, rest))
 }

@@ -1,4 +1,4 @@
-use Rattle.std.proofs.Common.{◌≡◌, ℕ, ◌-◌, ◌<◌, true, eqb, sym, ap, ◌∙◌, subst, arith}
+use Rattle.std.proofs.Common.{◌≡◌, ℕ, ◌-◌, ◌<◌, true, eqb, sym, ap, ◌∙◌, subst, rules}
 use Rattle.std.proofs.lemmas.Result.{MatchResult-weaker}
 use Rattle.words.specs.Words.{tag, kind_of, clean}
 use Rattle.grammar.specs.Reading.{ok, read_parts}
@@ -13,9 +13,10 @@ returns-clause-reads g t c =
     let w : ℕ = c.in-Some.first in
     let i = c.from-word.ensures.0 in
     let j = c.from-word.ensures.1 in
+    let u = c.in_ok-unless.ensures.passes in
     let e : eqb (kind_of w) k ≡ true = cc in
     let d : clean w ≡ true = cc in
-    let r : 0 < c.args.room = omega arith in
+    let r : 0 < c.args.room = search rules in
     let more
     : front c.args.parts.now.items (read_parts read k c.args.room c.args.ws.now)
     ≡ front c.push.new.self.items (read_parts read k (c.args.room - 1) c.in_ok-part.next.now)
