@@ -1,8 +1,7 @@
 ghost use Rattle.std.specs.Prelude.{◌≡◌, Some};
-ghost use Rattle.rules.specs.Loading.{code};
 ghost use Rattle.answers.specs.Answers.{answered, load_line};
 
-use rules::{LoadFault, Loaded, Refusal};
+use rules::{Loaded, Refusal};
 use std::fmt;
 
 // A load's answer as its number and two numbers more, shown as the line that says so.
@@ -11,19 +10,6 @@ pub struct LoadAnswer {
     pub code: u32,
     pub p: usize,
     pub q: usize,
-}
-
-fn fault_code(fault: LoadFault) -> u32
-    ensures { result ≡ code fault }
-{
-    match fault {
-        LoadFault::OutOfTurn => 10,
-        LoadFault::StrayBit => 11,
-        LoadFault::OutOfRange => 12,
-        LoadFault::Unbound => 13,
-        LoadFault::NoTaken => 14,
-        LoadFault::Label => 15,
-    }
 }
 
 impl From<&Result<Loaded, Refusal>> for LoadAnswer {
@@ -37,7 +23,7 @@ impl From<&Result<Loaded, Refusal>> for LoadAnswer {
                 q: loaded.used,
             },
             Err(refusal) => LoadAnswer {
-                code: fault_code(refusal.fault),
+                code: u32::from(refusal.fault),
                 p: refusal.place,
                 q: refusal.rules,
             },
