@@ -6,7 +6,7 @@ set -u
 root=$(cd "$(dirname "$0")/.." && pwd -P)
 work=$(mktemp -d) || exit 2
 trap 'rm -rf "$work"' EXIT
-for name in facts words grammar rules writer; do
+for name in args facts words grammar rules writer; do
     mkdir -p "$work/crates/$name"
     for part in src specs proofs; do
         [ -d "$root/crates/$name/$part" ] && cp -R "$root/crates/$name/$part" "$work/crates/$name/"
@@ -22,6 +22,7 @@ for sample in "$root"/.ci/rejects/*.txt; do
     {
         for part in Guard Head; do grep -v '^//' "$sample" | grep -q "[^a-z]$part[^a-z]" && echo "use grammar::$part;"; done
         for state in Begun Filling Guarding TableWriter Taking; do grep -q ": $state" "$sample" && echo "use writer::$state;"; done
+        grep -q "Refused {" "$sample" && echo "use writer::Refused;"
         echo
         grep -v '^expect: ' "$sample"
         printf '\nfn main() {}\n'

@@ -17,7 +17,8 @@ use Rattle.writer.specs.Memory.{placed}
 use Rattle.writer.specs.Refusals.{Wrote}
 use Rattle.writer.specs.Variables.{has}
 use Rattle.writer.specs.Tallies.{begun}
-use Rattle.writer.specs.Tables.{Front, Tabled, Opened, IsFilling, closed_table, labelled, Ended}
+use Rattle.writer.specs.Stages.{IsFilling}
+use Rattle.writer.specs.Tables.{Front, Tabled, Opened, closed_table, labelled, Ended}
 use Rattle.writer.proofs.Grows.{joined_push, front_on}
 
 rising_push : (n : ℕ) (rs : List Parts) (r : Parts) → Rising n rs → last_label n rs < r.label → Rising n (rs ++ r ∷ [])

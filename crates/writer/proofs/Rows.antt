@@ -1,45 +1,56 @@
--- Parts and rules of a list, written from an index on.
-use Rattle.std.proofs.Common.{◌≡◌, ℕ, ◌+◌, ◌<◌, ◌≤◌, List, [], ◌∷◌, ◌++◌, map, length, get_or, drop, set, sym, refl, ap, ◌∙◌, subst, ap₂, arith}
+-- Parts and rules of a list, written one after the other.
+use Rattle.std.proofs.Common.{◌≡◌, ℕ, ◌+◌, ◌<◌, ◌≤◌, List, [], ◌∷◌, ◌++◌, map, length, get_or, drop, set, sym, refl, ap, ◌∙◌, subst, ap₂, add-zero, arith}
 use Rattle.std.specs.List.{flat_map, AllByRecursion}
 use Rattle.std.proofs.lemmas.List.{append_assoc, length-append, drop_more, drop_all}
-use Rattle.writer.proofs.Places.{Puts, puts_none, puts_one, puts_more, room_on}
+use Rattle.std.proofs.ByRecursion.{All-drop}
+use Rattle.words.specs.Words.{word}
+use Rattle.grammar.specs.Atoms.{Head, BodyFact}
+use Rattle.grammar.specs.declared.part.Guard.{Guard}
+use Rattle.grammar.specs.declared.rule.Rule.{Rule}
+use Rattle.grammar.specs.Writing.{head_words, guard_words, body_words}
+use Rattle.writer.specs.Memory.{placed}
+use Rattle.writer.specs.Tables.{words_of}
+use Rattle.writer.proofs.Places.{Puts, puts_one, puts_more, room_on, placed_none, placed_more}
+
+next_item : {X : Type 0} (xs : List X) (i : ℕ) (x : X) → i < length xs → x ≡ get_or xs i x → drop i xs ≡ x ∷ drop (i + 1) xs
+next_item xs i x h e = drop_more xs i x h ∙ ap (λ y. y ∷ drop (i + 1) xs) (sym e)
+
+pub all_here : {X : Type 0} (P : X → Type 0) (xs : List X) (i : ℕ) (x : X) → i < length xs → x ≡ get_or xs i x → AllByRecursion P xs → P x
+all_here P xs i x h e a = (subst (AllByRecursion P) (next_item xs i x h e) (All-drop P i xs a)).0
 
 module _ {X : Type 0} (f : X → List ℕ) (xs : List X) (i : ℕ) where
-  pub none_left : length xs ≤ i → flat_map f (drop i xs) ≡ []
-  none_left h = ap (flat_map f) (drop_all i xs h)
+  -- the words that are left, put behind those so far, make all
+  abbrev pub Left : (end : ℕ) (m : List ℕ) (at : ℕ) (all before : List ℕ) → Type 0
+  Left end m at all before =
+      (placed end (flat_map f (drop i xs)) m ≡ placed at all before) × (end + length (flat_map f (drop i xs)) ≡ at + length all)
 
-  pub puts_end : (at : ℕ) (m : List ℕ) → length xs ≤ i → Puts at (flat_map f (drop i xs)) m at m
-  puts_end at m h = subst (λ (v : List ℕ). Puts at v m at m) (sym (none_left h)) (puts_none at m)
+  module _ (end : ℕ) (m : List ℕ) (at : ℕ) (all before : List ℕ) (p : Left end m at all before) where
+    pub none_left : length xs ≤ i → Puts at all before end m
+    none_left h =
+        let e : flat_map f (drop i xs) ≡ [] = ap (flat_map f) (drop_all i xs h) in (
+          placed_none end m ∙ ap (λ (v : List ℕ). placed end v m) (sym e) ∙ p.0,
+          sym (add-zero end) ∙ ap (λ (v : List ℕ). end + length v) (sym e) ∙ p.1,
+        )
 
-  module _ (x : X) (h : i < length xs) (e : x ≡ get_or xs i x) where
-    split : drop i xs ≡ x ∷ drop (i + 1) xs
-    split = drop_more xs i x h ∙ ap (λ (y : X). y ∷ drop (i + 1) xs) (sym e)
+    module _ (x : X) (h : i < length xs) (e : x ≡ get_or xs i x) (room : at + length all ≤ length m) where
+      words : flat_map f (drop i xs) ≡ f x ++ flat_map f (drop (i + 1) xs)
+      words = ap (flat_map f) (next_item xs i x h e)
 
-    words : flat_map f (drop i xs) ≡ f x ++ flat_map f (drop (i + 1) xs)
-    words = ap (flat_map f) split
+      pub room_here : end + length (f x) ≤ length m
+      room_here = let w = ap length words in let l = length-append (f x) (flat_map f (drop (i + 1) xs)) in let q = p.1 in omega arith
 
-    pub all_here : (P : X → Type 0) → AllByRecursion P (drop i xs) → P x
-    all_here P a = (subst (AllByRecursion P) split a).0
-
-    pub all_next : (P : X → Type 0) → AllByRecursion P (drop i xs) → AllByRecursion P (drop (i + 1) xs)
-    all_next P a = (subst (AllByRecursion P) split a).1
-
-    pub size_more : (m n : ℕ) → m ≡ length (f x) → n ≡ length (flat_map f (drop (i + 1) xs)) → m + n ≡ length (flat_map f (drop i xs))
-    size_more m n p q = ap₂ (λ (a b : ℕ). a + b) p q ∙ sym (length-append (f x) (flat_map f (drop (i + 1) xs))) ∙ sym (ap length words)
-
-    module _ (at : ℕ) (m : List ℕ) (room : at + length (flat_map f (drop i xs)) ≤ length m) where
-      whole : at + length (f x ++ flat_map f (drop (i + 1) xs)) ≤ length m
-      whole = subst (λ (v : List ℕ). at + length v ≤ length m) words room
-
-      pub room_here : at + length (f x) ≤ length m
-      room_here = let w = whole in let l = length-append (f x) (flat_map f (drop (i + 1) xs)) in omega arith
-
-      pub room_next : (n : ℕ) (m' : List ℕ) → Puts at (f x) m n m' → n + length (flat_map f (drop (i + 1) xs)) ≤ length m'
-      room_next n m' p = room_on at n (f x) (flat_map f (drop (i + 1) xs)) m m' whole p
-
-      pub puts_next : (n r : ℕ) (m' m'' : List ℕ) → Puts at (f x) m n m' → Puts n (flat_map f (drop (i + 1) xs)) m' r m'' → Puts at (flat_map f (drop i xs)) m r m''
-      puts_next n r m' m'' p q =
-          subst (λ (v : List ℕ). Puts at v m r m'') (sym words) (puts_more at n r (f x) (flat_map f (drop (i + 1) xs)) m m' m'' whole p q)
+      pub puts_next : (n : ℕ) (m' : List ℕ) → Puts end (f x) m n m' →
+          (placed n (flat_map f (drop (i + 1) xs)) m' ≡ placed at all before) × (n + length (flat_map f (drop (i + 1) xs)) ≡ at + length all)
+      puts_next n m' q =
+          let w = ap length words in
+          let l = length-append (f x) (flat_map f (drop (i + 1) xs)) in
+          let s = p.1 in
+          let o : n ≡ end + length (f x) = q.1 in (
+            ap (placed n (flat_map f (drop (i + 1) xs))) q.0
+                ∙ placed_more end n (f x) (flat_map f (drop (i + 1) xs)) m o (omega arith)
+                ∙ ap (λ (v : List ℕ). placed end v m) (sym words) ∙ p.0,
+            omega arith,
+          )
 
 room_first : (at : ℕ) (xs ys m : List ℕ) → at + length (xs ++ ys) ≤ length m → at + length xs ≤ length m
 room_first at xs ys m h = let l = length-append xs ys in omega arith
@@ -82,6 +93,58 @@ module _ (at w : ℕ) (ks ts gs bs m : List ℕ) (h : at + length (w ∷ ((ks ++
             (puts_more at (at + 1) r (w ∷ []) (ks ++ (ts ++ (gs ++ bs))) m (set m at w) m4 all_room first_word
             (puts_more (at + 1) n r ks (ts ++ (gs ++ bs)) (set m at w) m' m4 from_kept p
             (puts_more n i r ts (gs ++ bs) m' m'' m4 from_taken q (puts_more i j r gs bs m'' m3 m4 from_guards s u))))
+
+-- the words of a rule, by its RULE word and the lists of its parts
+pub record IsListed (r : Rule) (w : ℕ) (ks ts : List Head) (gs : List Guard) (bs : List BodyFact) : Type 0 where
+  pub label : w ≡ word 1 r.label
+  pub kept : ks ≡ r.kept.items
+  pub taken : ts ≡ r.taken.items
+  pub guards : gs ≡ r.guards.items
+  pub body : bs ≡ r.body.items
+
+abbrev pub kept_words : List Head → List ℕ
+kept_words = flat_map (head_words 2)
+
+abbrev pub taken_words : List Head → List ℕ
+taken_words = flat_map (head_words 3)
+
+abbrev pub guards_words : List Guard → List ℕ
+guards_words = flat_map guard_words
+
+abbrev pub bodies_words : List BodyFact → List ℕ
+bodies_words = flat_map body_words
+
+module _ {r : Rule} {w : ℕ} {ks ts : List Head} {gs : List Guard} {bs : List BodyFact} (l : IsListed r w ks ts gs bs) where
+  same_rule : w ∷ ((kept_words ks ++ taken_words ts) ++ (guards_words gs ++ bodies_words bs)) ≡ words_of r
+  same_rule =
+      ap₂ (λ (n : ℕ) (v : List ℕ). n ∷ v) l.label
+      (ap₂ (λ (u v : List ℕ). u ++ v)
+      (ap₂ (λ (x y : List Head). kept_words x ++ taken_words y) l.kept l.taken)
+      (ap₂ (λ (x : List Guard) (y : List BodyFact). guards_words x ++ bodies_words y) l.guards l.body))
+
+  module _ (at : ℕ) (m : List ℕ) (room : at + length (words_of r) ≤ length m) where
+    whole_room : at + length (w ∷ ((kept_words ks ++ taken_words ts) ++ (guards_words gs ++ bodies_words bs))) ≤ length m
+    whole_room = subst (λ (v : List ℕ). at + length v ≤ length m) (sym same_rule) room
+
+    pub kept_fit : at + 1 + length (kept_words ks) ≤ length (set m at w)
+    kept_fit = room_kept at w (kept_words ks) (taken_words ts) (guards_words gs) (bodies_words bs) m whole_room
+
+    module _ (n : ℕ) (m' : List ℕ) (p : Puts (at + 1) (kept_words ks) (set m at w) n m') where
+      pub taken_fit : n + length (taken_words ts) ≤ length m'
+      taken_fit = room_taken at w (kept_words ks) (taken_words ts) (guards_words gs) (bodies_words bs) m whole_room n m' p
+
+      module _ (i : ℕ) (m'' : List ℕ) (q : Puts n (taken_words ts) m' i m'') where
+        pub guards_fit : i + length (guards_words gs) ≤ length m''
+        guards_fit = room_guards at w (kept_words ks) (taken_words ts) (guards_words gs) (bodies_words bs) m whole_room n m' p i m'' q
+
+        module _ (j : ℕ) (m3 : List ℕ) (s : Puts i (guards_words gs) m'' j m3) where
+          pub body_fit : j + length (bodies_words bs) ≤ length m3
+          body_fit = room_body at w (kept_words ks) (taken_words ts) (guards_words gs) (bodies_words bs) m whole_room n m' p i m'' q j m3 s
+
+          pub rule_put : (e : ℕ) (m4 : List ℕ) → Puts j (bodies_words bs) m3 e m4 → Puts at (words_of r) m e m4
+          rule_put e m4 u =
+              subst (λ (v : List ℕ). Puts at v m e m4) same_rule
+              (rule_puts at w (kept_words ks) (taken_words ts) (guards_words gs) (bodies_words bs) m whole_room n m' p i m'' q j m3 s e m4 u)
 
 pub rule_size_lem : (w : ℕ) (ks ts gs bs : List ℕ) (a b c d : ℕ) → a ≡ length ks → b ≡ length ts → c ≡ length gs → d ≡ length bs →
     1 + a + b + c + d ≡ length (w ∷ ((ks ++ ts) ++ (gs ++ bs)))

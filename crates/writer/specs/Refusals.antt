@@ -32,6 +32,6 @@ pub record Wrote (range bound order : Type 0) (used : ℕ) (ws before after : Li
   pub memory : after ≡ placed used ws before
 
 -- a refused call: the first test that fails, and a memory as before
-pub record Refused (range bound order : Type 0) (used : ℕ) (ws before after : List ℕ) (why : Refusal) : Type 0 where
+pub record WroteNothing (range bound order : Type 0) (used : ℕ) (ws before after : List ℕ) (why : Refusal) : Type 0 where
   pub first : Fails range bound order (Room used ws before) why
   pub memory : after ≡ before

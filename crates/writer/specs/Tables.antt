@@ -1,13 +1,13 @@
 -- What the words so far are the writing of.
 use Rattle.std.specs.Prelude.{◌≡◌, ℕ, ◌+◌, ◌^◌, ◌<◌, ◌≤◌, List, [], ◌∷◌, ◌++◌, length, take, drop}
 use Rattle.std.specs.List.{flat_map, AllByRecursion}
-use Rattle.grammar.specs.Atoms.{Head, BodyFact}
-use Rattle.grammar.specs.declared.part.Guard.{Guard}
 use Rattle.grammar.specs.declared.rule.Rule.{Rule}
 use Rattle.grammar.specs.Parts.{Parts, parts}
 use Rattle.grammar.specs.Writing.{standard, rule_words, written, FormedHead, FormedGuard, FormedBody, FormedRule}
 use Rattle.grammar.specs.Validity.{binds, Bound, Valid, last_label}
 use Rattle.grammar.specs.Reading.{read_table, ok}
+use Rattle.writer.specs.declared.part.Part.{Part}
+use Rattle.writer.specs.declared.part.Part.TheVariants.{Kept, Taken, Guard, Body}
 use Rattle.writer.specs.declared.tally.Tally.{Tally}
 use Rattle.writer.specs.declared.table.TableWriter.{TableWriter}
 use Rattle.writer.specs.Variables.{has}
@@ -52,34 +52,15 @@ pub record Opened (t : Tally) (memory : List ℕ) (rs : List Parts) (r : Parts) 
   -- every variable of the guards and the body so far stands in a head
   pub bound : Bound r
 
--- how far an open rule has come: which parts there are none of yet, and that a head is taken
-abbrev pub IsBegun : Parts → Type 0
-IsBegun r = (r.taken ≡ []) × (r.guards ≡ []) × (r.body ≡ [])
-
-abbrev pub IsTaking : Parts → Type 0
-IsTaking r = (0 < length r.taken) × (r.guards ≡ []) × (r.body ≡ [])
-
-abbrev pub IsGuarding : Parts → Type 0
-IsGuarding r = (0 < length r.taken) × (r.body ≡ [])
-
-abbrev pub IsFilling : Parts → Type 0
-IsFilling r = 0 < length r.taken
-
 -- a rule with its label alone, and a rule with one part more
 abbrev pub labelled : ℕ → Parts
 labelled n = record { label = n; kept = []; taken = []; guards = []; body = [] }
 
-abbrev pub with_kept : Parts → Head → Parts
-with_kept r h = record { label = r.label; kept = r.kept ++ h ∷ []; taken = r.taken; guards = r.guards; body = r.body }
-
-abbrev pub with_taken : Parts → Head → Parts
-with_taken r h = record { label = r.label; kept = r.kept; taken = r.taken ++ h ∷ []; guards = r.guards; body = r.body }
-
-abbrev pub with_guard : Parts → Guard → Parts
-with_guard r g = record { label = r.label; kept = r.kept; taken = r.taken; guards = r.guards ++ g ∷ []; body = r.body }
-
-abbrev pub with_body : Parts → BodyFact → Parts
-with_body r b = record { label = r.label; kept = r.kept; taken = r.taken; guards = r.guards; body = r.body ++ b ∷ [] }
+abbrev pub with_part : Parts → Part → Parts
+with_part r (Kept h) = record r { kept = r.kept ++ h ∷ [] }
+with_part r (Taken h) = record r { taken = r.taken ++ h ∷ [] }
+with_part r (Guard g) = record r { guards = r.guards ++ g ∷ [] }
+with_part r (Body b) = record r { body = r.body ++ b ∷ [] }
 
 -- an ended table: the memory begins with the writing of these rules, n words, and loads as them
 pub record Ended (n : ℕ) (before after : List ℕ) (rs : List Parts) : Type 0 where

@@ -1,18 +1,14 @@
-ghost use Rattle.std.specs.Prelude.{◌≡◌, ℕ, ◌+◌, ◌-◌, ◌*◌, ◌/◌, ◌%◌, ◌^◌, ◌<◌, ◌≤◌, List, [], ◌∷◌, length, Decides, MatchResult};
-ghost use Rattle.words.specs.Words.{tag};
-ghost use Rattle.grammar.specs.Writing.{head_words, guard_words, body_words};
-ghost use Rattle.writer.specs.Memory.{code_words, placed};
-ghost use Rattle.writer.specs.Refusals.{Room, Wrote, Refused};
-ghost use Rattle.writer.specs.Variables.{Within};
-ghost use Rattle.writer.specs.Tallies.{HeadFits, GuardFits, BodyFits, head_added, guard_added, body_added};
+ghost use Rattle.std.specs.Prelude.{◌≡◌, ℕ, ◌+◌, ◌^◌, ◌<◌, ◌≤◌, List, [], ◌∷◌, length, Decides, MatchResult};
+ghost use Rattle.writer.specs.Memory.{placed};
+ghost use Rattle.writer.specs.Refusals.{Room};
+ghost use Rattle.writer.specs.Tallies.{Formed, HasPlace, IsBound, part_words, added};
+ghost use Rattle.writer.specs.Calls.{Added, NotAdded};
 ghost use Rattle.writer.specs.declared.refusal.Refusal.TheVariants.{NoRoom};
 
-use crate::code::{Code, Part};
-use crate::put::bind_head;
+use crate::part::Part;
 use crate::refusal::Refusal;
 use crate::tally::Tally;
-use grammar::{Args, BodyFact, Guard, Head};
-use words::Kind;
+use crate::variables::{bind_head, is_within};
 
 const MOST_HEADS: usize = 3;
 
@@ -20,104 +16,90 @@ const MOST_GUARDS: usize = 4;
 
 const MOST_BODY: usize = 3;
 
-// Whether so many words fit behind the words so far.
-pub fn has_room(memory: &[u32], used: usize, size: usize) -> bool
-    ensures { Decides result (used + size ≤ length memory.now) }
+// Puts words from a place on; gives the place after them.
+pub fn put_words(memory: &mut [u32], at: usize, words: &[u32]) -> usize
+    requires { at + length words.now ≤ length memory.old }
+    ensures memory { memory.new ≡ placed at words.now memory.old }
+    ensures value { result ≡ at + length words.now }
 {
-    used <= memory.len() && size <= memory.len() - used
+    let end = at + words.len();
+    memory[at..end].copy_from_slice(words);
+    end
 }
 
-// Puts the words of a part behind the words so far.
-fn add_code(memory: &mut [u32], used: usize, code: Code) -> Result<usize, Refusal>
-    ensures { MatchResult result (λ n. (n ≡ used + length (code_words code)) × Room used (code_words code) memory.old × (memory.new ≡ placed used (code_words code) memory.old)) (λ e. (e ≡ NoRoom) × (Room used (code_words code) memory.old → ⊥) × (memory.new ≡ memory.old)) }
+// Puts words behind the words so far.
+pub fn add_words(memory: &mut [u32], used: usize, words: &[u32]) -> Result<usize, Refusal>
+    ensures { MatchResult result (λ n. (n ≡ used + length words.now) × Room used words.now memory.old × (memory.new ≡ placed used words.now memory.old)) (λ e. (e ≡ NoRoom) × (Room used words.now memory.old → ⊥) × (memory.new ≡ memory.old)) }
 {
-    if !has_room(memory, used, code.size()) {
+    if used > memory.len() || words.len() > memory.len() - used {
         return Err(Refusal::NoRoom);
     }
-    Ok(code.put(memory, used))
-}
-
-// Puts one word behind the words so far.
-pub fn add_word(memory: &mut [u32], used: usize, word: u32) -> Result<usize, Refusal>
-    ensures { MatchResult result (λ n. (n ≡ used + 1) × Room used (word ∷ []) memory.old × (memory.new ≡ placed used (word ∷ []) memory.old)) (λ e. (e ≡ NoRoom) × (Room used (word ∷ []) memory.old → ⊥) × (memory.new ≡ memory.old)) }
-{
-    add_code(
-        memory,
-        used,
-        Code {
-            first: word,
-            rest: Args::Zero,
-        },
-    )
+    Ok(put_words(memory, used, words))
 }
 
 impl Tally {
-    pub fn add_head(self, memory: &mut [u32], kind: Kind, head: Head) -> Result<Tally, Refusal>
-        ensures { MatchResult result (λ t. Wrote (HeadFits self head) (Unit {0}) (Unit {0}) self.used (head_words (tag kind) head) memory.old memory.new × (t ≡ head_added self head)) (λ e. Refused (HeadFits self head) (Unit {0}) (Unit {0}) self.used (head_words (tag kind) head) memory.old memory.new e) }
+    // Whether the rule may have one part more of this sort.
+    fn has_place(self, part: Part) -> bool
+        ensures { Decides result (HasPlace self part) }
     {
-        if self.heads >= MOST_HEADS {
-            return Err(Refusal::OutOfRange);
+        match part {
+            Part::Kept(_) | Part::Taken(_) => self.heads < MOST_HEADS,
+            Part::Guard(_) => self.guards < MOST_GUARDS,
+            Part::Body(_) => self.body < MOST_BODY,
         }
-        let Some(code) = head.code(kind) else {
-            return Err(Refusal::OutOfRange);
-        };
-        let used = add_code(memory, self.used, code)?;
-        Ok(Tally {
-            used,
-            rules: self.rules,
-            label: self.label,
-            variables: bind_head(self.variables, head),
-            heads: self.heads + 1,
-            guards: self.guards,
-            body: self.body,
-        })
     }
 
-    pub fn add_guard(self, memory: &mut [u32], guard: Guard) -> Result<Tally, Refusal>
-        ensures { MatchResult result (λ t. Wrote (GuardFits self guard) (Within self.variables (guard_words guard)) (Unit {0}) self.used (guard_words guard) memory.old memory.new × (t ≡ guard_added self guard)) (λ e. Refused (GuardFits self guard) (Within self.variables (guard_words guard)) (Unit {0}) self.used (guard_words guard) memory.old memory.new e) }
+    // Whether the variables of a guard or a body fact stand in the heads so far.
+    fn binds(self, part: Part, words: &[u32]) -> bool
+        requires { words.now ≡ part_words part }
+        ensures { Decides result (IsBound self part) }
     {
-        if self.guards >= MOST_GUARDS {
-            return Err(Refusal::OutOfRange);
+        match part {
+            Part::Kept(_) | Part::Taken(_) => true,
+            Part::Guard(_) | Part::Body(_) => is_within(words, self.variables),
         }
-        let Some(code) = guard.code(Kind::Guard) else {
-            return Err(Refusal::OutOfRange);
-        };
-        if !code.is_within(self.variables) {
-            return Err(Refusal::UnboundVariable);
-        }
-        let used = add_code(memory, self.used, code)?;
-        Ok(Tally {
-            used,
-            rules: self.rules,
-            label: self.label,
-            variables: self.variables,
-            heads: self.heads,
-            guards: self.guards + 1,
-            body: self.body,
-        })
     }
 
-    pub fn add_body(self, memory: &mut [u32], fact: BodyFact) -> Result<Tally, Refusal>
-        ensures { MatchResult result (λ t. Wrote (BodyFits self fact) (Within self.variables (body_words fact)) (Unit {0}) self.used (body_words fact) memory.old memory.new × (t ≡ body_added self fact)) (λ e. Refused (BodyFits self fact) (Within self.variables (body_words fact)) (Unit {0}) self.used (body_words fact) memory.old memory.new e) }
+    // The numbers after a part, where so many words are used.
+    fn with(self, part: Part, used: usize) -> Tally
+        requires formed { Formed part }
+        requires place { HasPlace self part }
+        ensures { result ≡ record (added self part) { used = used } }
     {
-        if self.body >= MOST_BODY {
+        match part {
+            Part::Kept(head) | Part::Taken(head) => Tally {
+                used,
+                variables: bind_head(self.variables, head),
+                heads: self.heads + 1,
+                ..self
+            },
+            Part::Guard(_) => Tally {
+                used,
+                guards: self.guards + 1,
+                ..self
+            },
+            Part::Body(_) => Tally {
+                used,
+                body: self.body + 1,
+                ..self
+            },
+        }
+    }
+
+    // A part more.
+    pub fn add(self, memory: &mut [u32], part: Part) -> Result<Tally, Refusal>
+        ensures { MatchResult result (λ next. Added self part memory.old memory.new next) (λ why. NotAdded self part memory.old memory.new why) }
+    {
+        if !self.has_place(part) {
             return Err(Refusal::OutOfRange);
         }
-        let Some(code) = fact.code(Kind::Body) else {
+        let Some(code) = part.code() else {
             return Err(Refusal::OutOfRange);
         };
-        if !code.is_within(self.variables) {
+        if !self.binds(part, &code) {
             return Err(Refusal::UnboundVariable);
         }
-        let used = add_code(memory, self.used, code)?;
-        Ok(Tally {
-            used,
-            rules: self.rules,
-            label: self.label,
-            variables: self.variables,
-            heads: self.heads,
-            guards: self.guards,
-            body: self.body + 1,
-        })
+        let used = add_words(memory, self.used, &code)?;
+        Ok(self.with(part, used))
     }
 }

@@ -1,28 +1,31 @@
-ghost use Rattle.std.specs.Prelude.{◌≡◌, ℕ, ◌+◌, ◌-◌, ◌*◌, ◌/◌, ◌%◌, ◌^◌, ◌<◌, ◌≤◌, List, [], ◌∷◌, MatchOption};
+ghost use Rattle.std.specs.Prelude.{◌≡◌, ℕ, ◌+◌, ◌-◌, ◌*◌, ◌/◌, ◌%◌, ◌^◌, ◌<◌, ◌≤◌, List, [], ◌∷◌, ◌++◌, MatchOption, sum_by, length, refl};
 ghost use Rattle.std.specs.List.{flat_map, AllByRecursion};
 ghost use Rattle.words.specs.Words.{word, tag};
 ghost use Rattle.args.specs.Listed.{listed, amount};
 ghost use Rattle.grammar.specs.Writing.{operand_words, term_words, head_words, guard_words, body_words, test_number, FormedOperand, FormedTerm, FormedHead, FormedGuard, FormedBody};
-ghost use Rattle.writer.specs.Memory.{code_words};
+ghost use Rattle.grammar.specs.Sizes.{term_size, guard_size};
+ghost use Rattle.grammar.specs.declared.part.Operand.TheVariants.{Var, Const};
+ghost use Rattle.grammar.proofs.Sizes.{term_length, guard_length};
+ghost use Rattle.writer.specs.Lengths.{atom_length};
+ghost use Rattle.arrayvec.specs.ArrayVec.{array_vec_len};
+ghost use Rattle.writer.specs.Tallies.{Formed, part_words};
 
-use grammar::{Args, BodyFact, Guard, Head, Operand, Term, Test};
-use words::{Kind, constant_word, fact_word};
+use crate::part::Part;
+use arrayvec::ArrayVec;
+use grammar::{Args, Atom, Guard, Operand, Term, Test};
+use words::{Kind, Word, constant_word, fact_word};
 
 const LAST_VAR: u8 = 7;
 
-const VAR: u32 = 0x6000_0000;
+// The words of a part: a first word, and at most three for each of three arguments.
+pub type Code = ArrayVec<u32, 10>;
 
-const SUM: u32 = 0x8000_0000;
-
-const DIFF: u32 = 0x9000_0000;
-
-const GUARD: u32 = 0x4000_0000;
-
-// The words of a part: the first, and those of each argument.
-#[derive(Clone, Copy)]
-pub struct Code {
-    pub first: u32,
-    pub rest: Args<Args<u32>>,
+// The word of a kind and a payload.
+pub fn word_of(kind: Kind, payload: u32) -> u32
+    requires { payload < 2 ^ 28 }
+    ensures { result ≡ word (tag kind) payload }
+{
+    u32::from(Word { kind, payload })
 }
 
 // The word of an operand; none if its number is out of range.
@@ -30,12 +33,8 @@ fn operand_word(operand: Operand) -> Option<u32>
     ensures { MatchOption result (FormedOperand operand → ⊥) (λ w. FormedOperand operand × (w ∷ [] ≡ operand_words operand)) }
 {
     match operand {
-        Operand::Var(v) => {
-            if v > LAST_VAR {
-                return None;
-            }
-            Some(VAR + v as u32)
-        }
+        Operand::Var(v) if v > LAST_VAR => None,
+        Operand::Var(v) => Some(word_of(Kind::Var, u32::from(v))),
         Operand::Const(n) => constant_word(n),
     }
 }
@@ -46,9 +45,18 @@ pub trait Argument: Copy {
 
     ghost formed: { Self → Type 0 };
 
+    ghost size: { Self → ℕ };
+
+    // How many words it has.
+    fn size(self) -> usize
+        ensures value { result ≡ size self }
+        ensures bound { result ≤ 3 };
+
     // Its words; none if a number is out of range.
     fn words(self) -> Option<Args<u32>>
         ensures { MatchOption result (formed self → ⊥) (λ ws. formed self × (listed ws ≡ words self)) };
+
+    ghost sized: { (x : Self) → length (words x) ≡ size x };
 }
 
 impl Argument for Operand {
@@ -56,9 +64,16 @@ impl Argument for Operand {
 
     ghost formed = { FormedOperand };
 
+    ghost size = { λ _. 1 };
+
+    ghost sized = { elim [ Var v ↦ refl | Const n ↦ refl ] };
+
+    fn size(self) -> usize {
+        1
+    }
+
     fn words(self) -> Option<Args<u32>> {
-        let word = operand_word(self)?;
-        Some(Args::One(word))
+        Some(Args::One(operand_word(self)?))
     }
 }
 
@@ -67,123 +82,126 @@ impl Argument for Term {
 
     ghost formed = { FormedTerm };
 
+    ghost size = { term_size };
+
+    ghost sized = { term_length };
+
+    fn size(self) -> usize {
+        match self {
+            Term::One(_) => 1,
+            Term::Sum(_, _) | Term::Diff(_, _) => 3,
+        }
+    }
+
     fn words(self) -> Option<Args<u32>> {
         match self {
-            Term::One(a) => {
-                let a = operand_word(a)?;
-                Some(Args::One(a))
-            }
-            Term::Sum(a, b) => {
-                let a = operand_word(a)?;
-                let b = operand_word(b)?;
-                Some(Args::Three(SUM, a, b))
-            }
-            Term::Diff(a, b) => {
-                let a = operand_word(a)?;
-                let b = operand_word(b)?;
-                Some(Args::Three(DIFF, a, b))
-            }
+            Term::One(a) => Some(Args::One(operand_word(a)?)),
+            Term::Sum(a, b) => Some(Args::Three(
+                word_of(Kind::Sum, 0),
+                operand_word(a)?,
+                operand_word(b)?,
+            )),
+            Term::Diff(a, b) => Some(Args::Three(
+                word_of(Kind::Diff, 0),
+                operand_word(a)?,
+                operand_word(b)?,
+            )),
         }
     }
 }
 
-fn each_words<A: Argument>(args: Args<A>) -> Option<Args<Args<u32>>>
-    ensures { MatchOption result (AllByRecursion A.Argument.formed (listed args) → ⊥) (λ ws. AllByRecursion A.Argument.formed (listed args) × (flat_map listed (listed ws) ≡ flat_map A.Argument.words (listed args))) }
+// Puts the words of an argument behind the others.
+fn push_all(code: &mut Code, words: Args<u32>)
+    requires { array_vec_len code.old + amount words ≤ 10 }
+    ensures items { code.new.items ≡ code.old.items ++ listed words }
+    ensures len { array_vec_len code.new ≡ array_vec_len code.old + amount words }
 {
-    match args {
-        Args::Zero => Some(Args::Zero),
-        Args::One(a) => {
-            let a = a.words()?;
-            Some(Args::One(a))
-        }
-        Args::Two(a, b) => {
-            let a = a.words()?;
-            let b = b.words()?;
-            Some(Args::Two(a, b))
-        }
-        Args::Three(a, b, c) => {
-            let a = a.words()?;
-            let b = b.words()?;
-            let c = c.words()?;
-            Some(Args::Three(a, b, c))
-        }
+    for word in words {
+        code.push(word);
     }
 }
 
-fn count<A: Copy>(args: Args<A>) -> u8
-    ensures { result ≡ amount args }
-{
-    match args {
-        Args::Zero => 0,
-        Args::One(_) => 1,
-        Args::Two(_, _) => 2,
-        Args::Three(_, _, _) => 3,
-    }
-}
-
-// The words of a head or a body fact.
-fn fact_code<A: Argument>(kind: Kind, name: u8, args: Args<A>) -> Option<Code>
-    ensures { MatchOption result (AllByRecursion A.Argument.formed (listed args) → ⊥) (λ c. AllByRecursion A.Argument.formed (listed args) × (code_words c ≡ word (tag kind) (name * 2 ^ 16 + amount args) ∷ flat_map A.Argument.words (listed args))) }
-{
-    let first = fact_word(kind, name, count(args))?;
-    let rest = each_words(args)?;
-    Some(Code { first, rest })
-}
-
-// A head, a guard or a body fact.
-pub trait Part: Copy {
+// What is written as words.
+pub trait Encode: Copy {
     ghost words: { ℕ → Self → List ℕ };
 
     ghost formed: { Self → Type 0 };
 
+    ghost size: { Self → ℕ };
+
+    // How many words it has.
+    fn size(self) -> usize
+        ensures value { result ≡ size self }
+        ensures bound { result ≤ 10 };
+
     // Its words, the first of this kind; none if a number is out of range.
     fn code(self, kind: Kind) -> Option<Code>
-        ensures { MatchOption result (formed self → ⊥) (λ c. formed self × (code_words c ≡ words (tag kind) self)) };
+        ensures { MatchOption result (formed self → ⊥) (λ c. formed self × (c.items ≡ words (tag kind) self)) };
+
+    ghost sized: { (k : ℕ) (x : Self) → length (words k x) ≡ size x };
 }
 
-impl Part for Head {
-    ghost words = { head_words };
+impl<A: Argument> Encode for Atom<A> {
+    ghost words = { λ k atom. word k (atom.name * 2 ^ 16 + amount atom.args) ∷ flat_map A.words (listed atom.args) };
 
-    ghost formed = { FormedHead };
+    ghost formed = { λ atom. (atom.name < 2 ^ 8) × AllByRecursion A.formed (listed atom.args) };
+
+    ghost size = { λ atom. 1 + sum_by A.size (listed atom.args) };
+
+    ghost sized = { λ k atom. atom_length k atom.name atom.args A.words A.size A.sized };
+
+    fn size(self) -> usize {
+        let mut size = 1;
+        for argument in self.args {
+            size += argument.size();
+        }
+        size
+    }
 
     fn code(self, kind: Kind) -> Option<Code> {
-        fact_code(kind, self.name, self.args)
+        let mut code = Code::new();
+        code.push(fact_word(kind, self.name, self.args.len() as u8)?);
+        for argument in self.args {
+            push_all(&mut code, argument.words()?);
+        }
+        Some(code)
     }
 }
 
-impl Part for BodyFact {
-    ghost words = { λ _. body_words };
-
-    ghost formed = { FormedBody };
-
-    fn code(self, _kind: Kind) -> Option<Code> {
-        fact_code(Kind::Body, self.name, self.args)
-    }
-}
-
-fn test_number(test: Test) -> u32
-    ensures value { result ≡ test_number test }
-    ensures bound { result ≤ 3 }
-{
-    match test {
-        Test::Equal => 0,
-        Test::NotEqual => 1,
-        Test::Less => 2,
-        Test::AtMost => 3,
-    }
-}
-
-impl Part for Guard {
-    ghost words = { λ _. guard_words };
+impl Encode for Guard {
+    ghost words = { λ k guard. word k (test_number guard.test) ∷ (term_words guard.left ++ term_words guard.right) };
 
     ghost formed = { FormedGuard };
 
-    fn code(self, _kind: Kind) -> Option<Code> {
+    ghost size = { guard_size };
+
+    ghost sized = { λ _. guard_length };
+
+    fn size(self) -> usize {
+        1 + self.left.size() + self.right.size()
+    }
+
+    fn code(self, kind: Kind) -> Option<Code> {
         let left = self.left.words()?;
         let right = self.right.words()?;
-        Some(Code {
-            first: GUARD + test_number(self.test),
-            rest: Args::Two(left, right),
-        })
+        let mut code = Code::new();
+        code.push(word_of(kind, self.test as u32));
+        push_all(&mut code, left);
+        push_all(&mut code, right);
+        Some(code)
+    }
+}
+
+impl Part {
+    // Its words; none if a number is out of range.
+    pub fn code(self) -> Option<Code>
+        ensures { MatchOption result (Formed self → ⊥) (λ c. Formed self × (c.items ≡ part_words self)) }
+    {
+        match self {
+            Part::Kept(head) => head.code(Kind::Kept),
+            Part::Taken(head) => head.code(Kind::Taken),
+            Part::Guard(guard) => guard.code(Kind::Guard),
+            Part::Body(fact) => fact.code(Kind::Body),
+        }
     }
 }

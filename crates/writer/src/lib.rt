@@ -2,14 +2,16 @@
 
 mod add;
 mod code;
-mod put;
+mod part;
 pub mod refusal;
+pub mod stage;
 pub mod table;
 mod tally;
+mod variables;
 pub mod whole;
 
-pub use refusal::Refusal;
-pub use table::{Begun, Filling, Guarding, TableWriter, Taking};
+pub use refusal::{Refusal, Refused};
+pub use table::{Begun, Filling, Guarding, OpenRule, TableWriter, Taking};
 pub use whole::write_table;
 
 #[cfg(test)]

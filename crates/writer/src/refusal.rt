@@ -5,24 +5,26 @@ ghost use Rattle.writer.specs.Refusals.{number};
 #[derive(Clone, Copy, PartialEq, Debug)]
 pub enum Refusal {
     // A number is out of range, or there is one head, guard, body fact or rule too many.
-    OutOfRange,
+    OutOfRange = 12,
     // A variable of a guard or a body fact stands in no head.
-    UnboundVariable,
+    UnboundVariable = 13,
     // The label is 0, or not above the last.
-    LabelOrder,
+    LabelOrder = 15,
     // Too few words are left.
-    NoRoom,
+    NoRoom = 30,
 }
 
 impl Refusal {
     pub fn number(self) -> u8
         ensures { result ≡ number self }
     {
-        match self {
-            Refusal::OutOfRange => 12,
-            Refusal::UnboundVariable => 13,
-            Refusal::LabelOrder => 15,
-            Refusal::NoRoom => 30,
-        }
+        self as u8
     }
+}
+
+// What a refused call gives back: the state as it was, why, and the words so far.
+pub struct Refused<W> {
+    pub state: W,
+    pub why: Refusal,
+    pub used: usize,
 }

@@ -1,10 +1,9 @@
-mod begun_rule;
-mod filling_rule;
-mod guarding_rule;
 mod no_rule;
-mod taking_rule;
+mod open_rule;
 
+use crate::stage::{Body, Guards, Heads, Start};
 use crate::tally::Tally;
+use std::marker::PhantomData;
 
 // A table with no open rule: words so far, closed rules, the last label.
 pub struct TableWriter {
@@ -13,22 +12,20 @@ pub struct TableWriter {
     last: u16,
 }
 
-// An open rule with no taken head yet.
-pub struct Begun {
+// An open rule: its numbers, and how far it has come.
+pub struct OpenRule<S> {
     tally: Tally,
+    stage: PhantomData<S>,
 }
+
+// An open rule with no taken head yet.
+pub type Begun = OpenRule<Start>;
 
 // An open rule with a taken head, and no guard or body fact.
-pub struct Taking {
-    tally: Tally,
-}
+pub type Taking = OpenRule<Heads>;
 
 // An open rule with a guard, and no body fact.
-pub struct Guarding {
-    tally: Tally,
-}
+pub type Guarding = OpenRule<Guards>;
 
 // An open rule with a body fact.
-pub struct Filling {
-    tally: Tally,
-}
+pub type Filling = OpenRule<Body>;

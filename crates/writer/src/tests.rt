@@ -1,4 +1,4 @@
-use crate::{Begun, Filling, Guarding, Refusal, TableWriter, Taking, write_table};
+use crate::{Begun, Filling, Guarding, Refusal, Refused, TableWriter, Taking, write_table};
 use grammar::{Args, BodyFact, Guard, Head, Operand, Term, Test};
 use rules::load;
 use std::test::Fail;
@@ -64,9 +64,15 @@ fn late(a: Operand) -> BodyFact {
 fn begun(memory: &mut [u32], label: u16) -> Result<Begun, Refusal> {
     match TableWriter::new().begin(memory, label) {
         Ok((rule, _)) => Ok(rule),
-        Err((table, refusal, _)) => {
+        Err(
+            Refused {
+                state: table,
+                why,
+                used: _,
+            },
+        ) => {
             let _ = table.give_up();
-            Err(refusal)
+            Err(why)
         }
     }
 }
@@ -74,9 +80,15 @@ fn begun(memory: &mut [u32], label: u16) -> Result<Begun, Refusal> {
 fn taken(rule: Begun, memory: &mut [u32], head: Head) -> Result<Taking, Refusal> {
     match rule.take(memory, head) {
         Ok((rule, _)) => Ok(rule),
-        Err((rule, refusal, _)) => {
+        Err(
+            Refused {
+                state: rule,
+                why,
+                used: _,
+            },
+        ) => {
             let _ = rule.give_up();
-            Err(refusal)
+            Err(why)
         }
     }
 }
@@ -84,10 +96,16 @@ fn taken(rule: Begun, memory: &mut [u32], head: Head) -> Result<Taking, Refusal>
 fn guarded(rule: Taking, memory: &mut [u32], guard: Guard) -> Result<Guarding, Refusal> {
     match rule.guard(memory, guard) {
         Ok((rule, _)) => Ok(rule),
-        Err((rule, refusal, _)) => {
+        Err(
+            Refused {
+                state: rule,
+                why,
+                used: _,
+            },
+        ) => {
             let (table, _) = rule.close();
             let _ = table.give_up();
-            Err(refusal)
+            Err(why)
         }
     }
 }
@@ -96,9 +114,15 @@ fn guarded(rule: Taking, memory: &mut [u32], guard: Guard) -> Result<Guarding, R
 fn sample(memory: &mut [u32]) -> Result<usize, Refusal> {
     let rule = match begun(memory, 7)?.keep(memory, fill(A, B)) {
         Ok((rule, _)) => rule,
-        Err((rule, refusal, _)) => {
+        Err(
+            Refused {
+                state: rule,
+                why,
+                used: _,
+            },
+        ) => {
             let _ = rule.give_up();
-            return Err(refusal);
+            return Err(why);
         }
     };
     let rule = taken(rule, memory, fill(A, C))?;
@@ -106,9 +130,15 @@ fn sample(memory: &mut [u32]) -> Result<usize, Refusal> {
     let (table, _) = rule.close();
     match table.end(memory) {
         Ok(words) => Ok(words),
-        Err((table, refusal, _)) => {
+        Err(
+            Refused {
+                state: table,
+                why,
+                used: _,
+            },
+        ) => {
             let _ = table.give_up();
-            Err(refusal)
+            Err(why)
         }
     }
 }
@@ -159,9 +189,15 @@ fn in_shorter_memory(rt: HostRuntime) {
 fn kept(rule: Begun, memory: &mut [u32]) -> Result<Begun, Refusal> {
     match rule.keep(memory, NOTHING) {
         Ok((rule, _)) => Ok(rule),
-        Err((rule, refusal, _)) => {
+        Err(
+            Refused {
+                state: rule,
+                why,
+                used: _,
+            },
+        ) => {
             let _ = rule.give_up();
-            Err(refusal)
+            Err(why)
         }
     }
 }
@@ -169,10 +205,16 @@ fn kept(rule: Begun, memory: &mut [u32]) -> Result<Begun, Refusal> {
 fn more_taken(rule: Taking, memory: &mut [u32]) -> Result<Taking, Refusal> {
     match rule.take(memory, NOTHING) {
         Ok((rule, _)) => Ok(rule),
-        Err((rule, refusal, _)) => {
+        Err(
+            Refused {
+                state: rule,
+                why,
+                used: _,
+            },
+        ) => {
             let (table, _) = rule.close();
             let _ = table.give_up();
-            Err(refusal)
+            Err(why)
         }
     }
 }
@@ -180,10 +222,16 @@ fn more_taken(rule: Taking, memory: &mut [u32]) -> Result<Taking, Refusal> {
 fn more_guards(rule: Guarding, memory: &mut [u32]) -> Result<Guarding, Refusal> {
     match rule.guard(memory, ALWAYS) {
         Ok((rule, _)) => Ok(rule),
-        Err((rule, refusal, _)) => {
+        Err(
+            Refused {
+                state: rule,
+                why,
+                used: _,
+            },
+        ) => {
             let (table, _) = rule.close();
             let _ = table.give_up();
-            Err(refusal)
+            Err(why)
         }
     }
 }
@@ -302,9 +350,15 @@ fn next_rule(table: TableWriter, memory: &mut [u32], label: u16) -> Result<Table
             let (table, _) = rule.close();
             Ok(table)
         }
-        Err((table, refusal, _)) => {
+        Err(
+            Refused {
+                state: table,
+                why,
+                used: _,
+            },
+        ) => {
             let _ = table.give_up();
-            Err(refusal)
+            Err(why)
         }
     }
 }
@@ -349,10 +403,16 @@ fn facts_from(rule: Filling, memory: &mut [u32], count: u8) -> (u8, Option<Refus
     }
     match rule.fill(memory, late(A)) {
         Ok((rule, _)) => facts_from(rule, memory, count + 1),
-        Err((rule, refusal, _)) => {
+        Err(
+            Refused {
+                state: rule,
+                why,
+                used: _,
+            },
+        ) => {
             let (table, _) = rule.close();
             let _ = table.give_up();
-            (count, Some(refusal))
+            (count, Some(why))
         }
     }
 }
@@ -364,10 +424,16 @@ fn amounts(rt: HostRuntime) -> Result<(), Fail> {
     let rule = taken(rule, &mut memory, fill(A, B))?;
     let (words, last) = match rule.fill(&mut memory, late(A)) {
         Ok((rule, words)) => (words, facts_from(rule, &mut memory, 1)),
-        Err((rule, refusal, words)) => {
+        Err(
+            Refused {
+                state: rule,
+                why,
+                used: words,
+            },
+        ) => {
             let (table, _) = rule.close();
             let _ = table.give_up();
-            (words, (0, Some(refusal)))
+            (words, (0, Some(why)))
         }
     };
     assert_eq!(rt; words, 8);
@@ -379,7 +445,7 @@ fn amounts(rt: HostRuntime) -> Result<(), Fail> {
 
 #[test]
 fn loaded_and_written_again(rt: HostRuntime) -> Result<(), Fail> {
-    let loaded = load(rt.alloc(), &SAMPLE)?;
+    let loaded = load(&SAMPLE)?;
     let mut memory = [5; 12];
     assert_eq!(rt; write_table(&loaded.table, &mut memory[0..11]), Ok(11));
     assert_eq!(rt; memory, SAMPLE);

@@ -1,31 +1,20 @@
-ghost use Rattle.std.specs.Prelude.{◌≡◌, ℕ, ◌+◌, ◌-◌, ◌*◌, ◌/◌, ◌%◌, ◌^◌, ◌<◌, ◌≤◌, List, [], ◌∷◌, MatchResult};
+ghost use Rattle.std.specs.Prelude.{◌≡◌, List, ℕ, [], ◌∷◌, ◌<◌, ◌+◌, MatchResult};
 ghost use Rattle.words.specs.Words.{word};
 ghost use Rattle.grammar.specs.Parts.{Parts};
-ghost use Rattle.writer.specs.Refusals.{Wrote, Refused};
+ghost use Rattle.writer.specs.Stages.{IsBegun};
 ghost use Rattle.writer.specs.Tallies.{begun};
-ghost use Rattle.writer.specs.Tables.{Tabled, Opened, IsBegun, closed_table, labelled, Ended};
+ghost use Rattle.writer.specs.Tables.{Tabled, Opened, labelled, Ended};
+ghost use Rattle.writer.specs.Calls.{Begins, NotBegun, Ends, NotEnded, Stays};
 
-use crate::add::add_word;
-use crate::refusal::Refusal;
-use crate::table::{Begun, TableWriter};
+use crate::add::add_words;
+use crate::code::word_of;
+use crate::refusal::{Refusal, Refused};
+use crate::table::{Begun, OpenRule, TableWriter};
 use crate::tally::Tally;
+use std::marker::PhantomData;
+use words::Kind;
 
 const MOST_RULES: usize = 32;
-
-const RULE: u32 = 0x1000_0000;
-
-const END: u32 = 0xF000_0000;
-
-// The table of a rule that is closed.
-pub fn closed_table(tally: Tally) -> TableWriter
-    ensures { result ≡ closed_table tally }
-{
-    TableWriter {
-        used: tally.used,
-        rules: tally.rules,
-        last: tally.label,
-    }
-}
 
 impl TableWriter {
     // A table with no rule.
@@ -40,26 +29,41 @@ impl TableWriter {
         }
     }
 
+    // The same table, when a call is refused.
+    fn refused(self, why: Refusal) -> Refused<TableWriter>
+        ensures { result ≡ record { state = self; why = why; used = self.used } }
+    {
+        Refused {
+            used: self.used,
+            state: self,
+            why,
+        }
+    }
+
     // Begins a rule.
     pub fn begin(
         self,
         memory: &mut [u32],
         label: u16,
-    ) -> Result<(Begun, usize), (TableWriter, Refusal, usize)>
-        ensures does { MatchResult result (λ x. Wrote (self.rules < 32) (Unit {0}) (self.last < label) self.used (word 1 label ∷ []) memory.old memory.new × (x.0.tally ≡ begun self.used self.rules label) × (x.1 ≡ x.0.tally.used)) (λ e. Refused (self.rules < 32) (Unit {0}) (self.last < label) self.used (word 1 label ∷ []) memory.old memory.new e.1 × (e.0 ≡ self) × (e.2 ≡ self.used)) }
-        ensures table { (rs : List Parts) → Tabled self memory.old rs → MatchResult result (λ x. Opened x.0.tally memory.new rs (labelled label) × IsBegun (labelled label)) (λ e. Tabled e.0 memory.new rs) }
+    ) -> Result<(Begun, usize), Refused<TableWriter>>
+        ensures does { MatchResult result (λ x. Begins self label memory.old memory.new x.0.tally × (x.1 ≡ x.0.tally.used)) (λ e. NotBegun self label memory.old memory.new e.why × Stays self e) }
+        ensures table { (rs : List Parts) → Tabled self memory.old rs → MatchResult result (λ x. Opened x.0.tally memory.new rs (labelled label) × IsBegun (labelled label)) (λ e. Tabled e.state memory.new rs) }
     {
-        let TableWriter { used, rules, last } = self;
-        if rules >= MOST_RULES {
-            return Err((TableWriter { used, rules, last }, Refusal::OutOfRange, used));
+        if self.rules >= MOST_RULES {
+            return Err(self.refused(Refusal::OutOfRange));
         }
-        if label <= last {
-            return Err((TableWriter { used, rules, last }, Refusal::LabelOrder, used));
+        if label <= self.last {
+            return Err(self.refused(Refusal::LabelOrder));
         }
-        match add_word(memory, used, RULE + label as u32) {
-            Ok(after) => {
+        match add_words(memory, self.used, &[word_of(Kind::Rule, u32::from(label))]) {
+            Ok(used) => {
+                let TableWriter {
+                    used: _,
+                    rules,
+                    last: _,
+                } = self;
                 let tally = Tally {
-                    used: after,
+                    used,
                     rules: rules + 1,
                     label,
                     variables: 0,
@@ -67,21 +71,24 @@ impl TableWriter {
                     guards: 0,
                     body: 0,
                 };
-                Ok((Begun { tally }, after))
+                let rule = OpenRule {
+                    tally,
+                    stage: PhantomData,
+                };
+                Ok((rule, used))
             }
-            Err(refusal) => Err((TableWriter { used, rules, last }, refusal, used)),
+            Err(why) => Err(self.refused(why)),
         }
     }
 
     // Ends the table; answers its words.
-    pub fn end(self, memory: &mut [u32]) -> Result<usize, (TableWriter, Refusal, usize)>
-        ensures does { MatchResult result (λ n. Wrote (Unit {0}) (Unit {0}) (Unit {0}) self.used (word 15 0 ∷ []) memory.old memory.new × (n ≡ self.used + 1)) (λ e. Refused (Unit {0}) (Unit {0}) (Unit {0}) self.used (word 15 0 ∷ []) memory.old memory.new e.1 × (e.0 ≡ self) × (e.2 ≡ self.used)) }
-        ensures table { (rs : List Parts) → Tabled self memory.old rs → MatchResult result (λ n. Ended n memory.old memory.new rs) (λ e. Tabled e.0 memory.new rs) }
+    pub fn end(self, memory: &mut [u32]) -> Result<usize, Refused<TableWriter>>
+        ensures does { MatchResult result (λ n. Ends self memory.old memory.new × (n ≡ self.used + 1)) (λ e. NotEnded self memory.old memory.new e.why × Stays self e) }
+        ensures table { (rs : List Parts) → Tabled self memory.old rs → MatchResult result (λ n. Ended n memory.old memory.new rs) (λ e. Tabled e.state memory.new rs) }
     {
-        let TableWriter { used, rules, last } = self;
-        match add_word(memory, used, END) {
-            Ok(after) => Ok(after),
-            Err(refusal) => Err((TableWriter { used, rules, last }, refusal, used)),
+        match add_words(memory, self.used, &[word_of(Kind::End, 0)]) {
+            Ok(_) => Ok(self.give_up() + 1),
+            Err(why) => Err(self.refused(why)),
         }
     }
 

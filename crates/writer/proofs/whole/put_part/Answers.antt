@@ -1,5 +1,0 @@
-use mathlib.Core.Logic.{∥∥₁_elim}
-use Rattle.writer.proofs.whole.put_part.Goals as goal
-
-pub returns-in-None : goal.returns-in-None
-returns-in-None g c = absurd (∥∥₁_elim c.requires.formed (λ a b. absurd a) c.in-None.ensures)
