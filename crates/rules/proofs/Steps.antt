@@ -1,5 +1,5 @@
 -- What one step of the code does to what is still to be read.
-use Rattle.std.proofs.Common.{◌≡◌, ℕ, zero, suc, ◌+◌, ◌-◌, ◌<◌, true, false, eqb, List, [], ◌∷◌, ◌++◌, length, sym, refl, ap, ◌∙◌, append_assoc, append-nil, arith}
+use Rattle.std.proofs.Common.{◌≡◌, ℕ, suc, ◌+◌, ◌-◌, ◌<◌, true, false, eqb, List, [], ◌∷◌, ◌++◌, length, sym, refl, ap, ◌∙◌, append_assoc, Result, Ok, Err, Bor, arith}
 use Rattle.std.proofs.lemmas.Bool.Decides.{nat_tests}
 use Rattle.words.specs.Words.{kind_of, payload_of, clean, label_in}
 use Rattle.grammar.specs.declared.reason.Reason.{Reason}
@@ -8,26 +8,20 @@ use Rattle.grammar.specs.declared.part.Guard.{Guard}
 use Rattle.grammar.specs.Reading.{Parsed, ok, no, then, read_head, read_guard, read_body, read_parts, read_rule, read_rules}
 use Rattle.grammar.specs.Parts.{Parts}
 use Rattle.grammar.specs.Writing.{standard}
-use Rattle.rules.specs.Progress.{front}
+use Rattle.rules.specs.Progress.{front, Adds}
+use Rattle.rules.specs.declared.fault.Fault.{Fault}
 
 joined_front : {A : Type 0} (xs : List A) (a : A) (q : Parsed (List A)) → front xs (then q (λ ys us. ok (a ∷ ys) us)) ≡ front (xs ++ a ∷ []) q
 joined_front {A} xs a (ok ys us) = ap (λ (zs : List A). ok zs us) (simp append_assoc)
 joined_front xs a (no r n) = refl
 
-pub front_none : {A : Type 0} (xs : List A) (us : List ℕ) → front xs (ok [] us) ≡ ok xs us
-front_none {A} xs us = ap (λ (zs : List A). ok zs us) (simp append-nil)
+-- what a step leaves to be added is what the rest adds
+pub adds_more : {A : Type 0} (xs ys zs : List A) (p q : Parsed (List A)) (r : Result (Bor (List ℕ)) Fault) → front xs p ≡ front ys q → Adds ys q zs r → Adds xs p zs r
+adds_more xs ys zs p q (Ok rest) e h = e ∙ h
+adds_more xs ys zs p q (Err fault) e h = e ∙ h
 
 -- parts of one kind, where a word stands next
 module _ {A : Type 0} (p : ℕ → List ℕ → Parsed A) (k room : ℕ) (xs : List A) (ws : List ℕ) (w : ℕ) (vs : List ℕ) (s : ws ≡ w ∷ vs) where
-  other : (n : ℕ) → eqb (kind_of w) k ≡ false → read_parts p k n (w ∷ vs) ≡ ok [] (w ∷ vs)
-  other zero e = rw e
-  other (suc n) e = rw e
-
-  pub parts_stop : eqb (kind_of w) k ≡ false → front xs (read_parts p k room ws) ≡ ok xs ws
-  parts_stop e =
-      ap (λ (v : List ℕ). front xs (read_parts p k room v)) s ∙ ap (λ (q : Parsed (List A)). front xs q) (other room e) ∙ front_none xs (w ∷ vs)
-      ∙ ap (λ (v : List ℕ). ok xs v) (sym s)
-
   pub parts_more : eqb (kind_of w) k ≡ true → clean w ≡ true → 0 < room → (x : A) (us : List ℕ) → p (payload_of w) vs ≡ ok x us →
       front xs (read_parts p k room ws) ≡ front (xs ++ x ∷ []) (read_parts p k (room - 1) us)
   parts_more e c h x us g =
@@ -35,15 +29,6 @@ module _ {A : Type 0} (p : ℕ → List ℕ → Parsed A) (k room : ℕ) (xs : L
       let q : read_parts p k (suc (room - 1)) (w ∷ vs) ≡ then (read_parts p k (room - 1) us) (λ ys vs. ok (x ∷ ys) vs) = rw (e, c, g) in
       ap (λ (v : List ℕ). front xs (read_parts p k room v)) s ∙ ap (λ (m : ℕ). front xs (read_parts p k m (w ∷ vs))) n
       ∙ ap (λ (r : Parsed (List A)). front xs r) q ∙ joined_front xs x (read_parts p k (room - 1) us)
-
--- nothing was read before
-pub front_at : {A : Type 0} (xs : List A) (p q : Parsed (List A)) → xs ≡ [] → front xs p ≡ q → p ≡ q
-front_at {A} xs (ok ys us) q e f = sym (ap (λ (zs : List A). ok (zs ++ ys) us) e) ∙ f
-front_at xs (no r n) q e f = f
-
-pub front_no : {A : Type 0} (xs : List A) (p : Parsed (List A)) (r : Reason) (n : ℕ) → front xs p ≡ no r n → p ≡ no r n
-front_no {A} xs (ok ys us) r n h = absurd (let z : ◌≡◌ {A = ℕ} 0 1 = cc in omega arith)
-front_no xs (no q m) r n h = h
 
 -- a rule, part after part; the code counts the kept heads as k and as m, and the taken ones as n
 module _ (label : ℕ) (ws : List ℕ) (ks : List Head) (us : List ℕ) (h1 : read_parts read_head 2 3 ws ≡ ok ks us)

@@ -1,7 +1,8 @@
 -- The words of a rule after its heads, and its faults.
-use Rattle.std.proofs.Common.{◌≡◌, ℕ, suc, ◌-◌, ◌≤◌, false, List, [], ◌∷◌, ◌++◌, length, Some, None, get_or, take, drop, sym, refl, ap, ◌∙◌, subst, arith, length-append, length-drop}
+use Rattle.std.proofs.Common.{◌≡◌, ℕ, suc, ◌-◌, ◌≤◌, false, List, length, Some, None, get_or, take, drop, sym, ap, ◌∙◌, subst, arith, length-append, length-drop}
 use Rattle.std.specs.List.{position, AllByRecursion}
 use Rattle.std.proofs.lemmas.List.{take_all}
+use Rattle.std.proofs.Math.Seq.{drop-append_seam}
 use Rattle.facts.specs.Lists.{Nth}
 use Rattle.facts.proofs.Nths.{nth_within, nth_get_or}
 use Rattle.grammar.specs.Parts.{Parts}
@@ -14,10 +15,6 @@ use Rattle.rules.specs.declared.refusal.LoadFault.TheVariants.{OutOfTurn, StrayB
 use Rattle.rules.specs.Faults.{RuleFault}
 use Rattle.rules.proofs.Somes.{first_none, first_some}
 
-pub drop_front : (xs ys : List ℕ) → drop (length xs) (xs ++ ys) ≡ ys
-drop_front [] ys = refl
-drop_front (x ∷ xs) ys = drop_front xs ys
-
 module _ (r : Parts) (ws : List ℕ) (n : ℕ) (e : ws ≡ rule_words r) (h : n ≡ heads_size r) where
   pub heads_within : n ≤ length ws
   heads_within =
@@ -28,7 +25,7 @@ module _ (r : Parts) (ws : List ℕ) (n : ℕ) (e : ws ≡ rule_words r) (h : n 
   pub tail_slice : take (length ws - n) (drop n ws) ≡ tail_words r
   tail_slice =
       let m : n ≡ suc (length (heads_words r)) = h ∙ sym (heads_length r) in
-      let d : drop n ws ≡ tail_words r = ap (λ (k : ℕ). drop k ws) m ∙ ap (drop (suc (length (heads_words r)))) e ∙ drop_front (heads_words r) (tail_words r) in
+      let d : drop n ws ≡ tail_words r = ap (λ (k : ℕ). drop k ws) m ∙ ap (drop (suc (length (heads_words r)))) e ∙ drop-append_seam (heads_words r) (tail_words r) in
       take_all (length ws - n) (drop n ws) (simp length-drop (omega arith)) ∙ d
 
   pub tail_bound : position (free r) (take (length ws - n) (drop n ws)) ≡ None → Bound r

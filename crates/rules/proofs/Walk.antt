@@ -1,6 +1,7 @@
 -- Going through the rules of a well-formed table and its words, rule after rule.
 use Rattle.std.proofs.Common.{◌≡◌, ℕ, zero, suc, ◌+◌, ◌-◌, ◌<◌, ◌≤◌, List, [], ◌∷◌, ◌++◌, map, length, get_or, take, drop, sym, refl, ap, ◌∙◌, subst, append_assoc, add-one, arith, length-append}
-use lib.Seq.{take-append_seam}
+use Rattle.std.proofs.Math.Seq.{take-append_seam, drop-append_seam}
+use Rattle.std.proofs.lemmas.Grind.{flat_map-append}
 use Rattle.std.specs.List.{flat_map, AllByRecursion}
 use Rattle.std.proofs.ByRecursion.{All-push}
 use Rattle.facts.specs.Lists.{Nth}
@@ -10,7 +11,7 @@ use Rattle.grammar.specs.Sizes.{rule_size}
 use Rattle.grammar.specs.Validity.{Sound, Rising, Valid, last_label, rule_at}
 use Rattle.grammar.specs.Writing.{standard, Formed, FormedRule, rule_words, written}
 use Rattle.grammar.proofs.Sizes.{rule_length}
-use Rattle.rules.proofs.Tails.{drop_front, fault_within}
+use Rattle.rules.proofs.Tails.{fault_within}
 use Rattle.rules.specs.declared.refusal.LoadFault.{LoadFault}
 use Rattle.rules.specs.Faults.{RuleFault, FirstFault}
 use Rattle.std.proofs.lemmas.List.{take_all, length-map}
@@ -34,10 +35,6 @@ last_push : (n : ℕ) (xs : List Parts) (r : Parts) → last_label n (xs ++ r �
 last_push n [] r = refl
 last_push n (x ∷ xs) r = last_push x.label xs r
 
-joined_append : (xs ys : List Parts) → flat_map rule_words (xs ++ ys) ≡ flat_map rule_words xs ++ flat_map rule_words ys
-joined_append [] ys = refl
-joined_append (x ∷ xs) ys = ap (λ (v : List ℕ). rule_words x ++ v) (joined_append xs ys) ∙ sym (append_assoc (rule_words x) (flat_map rule_words xs) (flat_map rule_words ys))
-
 -- the words before a rule, its own, and those after it
 parted : (rs : List Parts) (i : ℕ) (r : Parts) (us : List ℕ) → Nth rs i r →
     (vs : List ℕ) × (written rs ++ us ≡ flat_map rule_words (take i rs) ++ (rule_words r ++ vs))
@@ -56,7 +53,7 @@ module _ (rs : List Parts) (i : ℕ) (r : Parts) (n : Nth rs i r) where
       let g : rule_at rs (i + 1) ≡ rule_at rs i + length (rule_words r)
       = ap (λ (k : ℕ). length (flat_map rule_words (take k rs))) (add-one i)
       ∙ ap (λ (v : List Parts). length (flat_map rule_words v)) (take_nth rs i r n)
-      ∙ ap length (joined_append (take i rs) (r ∷ []))
+      ∙ ap length (flat_map-append rule_words (take i rs) (r ∷ []))
       ∙ length-append (flat_map rule_words (take i rs)) (rule_words r ++ [])
       ∙ ap (λ (k : ℕ). rule_at rs i + k) (length-append (rule_words r) [] ∙ omega arith) in
       omega (arith, rule_length r)
@@ -85,7 +82,7 @@ module _ (rs : List Parts) (i : ℕ) (r : Parts) (n : Nth rs i r) where
     rule_slice =
         let p = parted rs i r us n in
         let d : drop at ws ≡ rule_words r ++ p.0
-        = ap (λ (k : ℕ). drop k ws) f ∙ ap (drop (rule_at rs i)) (e ∙ p.1) ∙ drop_front (flat_map rule_words (take i rs)) (rule_words r ++ p.0) in
+        = ap (λ (k : ℕ). drop k ws) f ∙ ap (drop (rule_at rs i)) (e ∙ p.1) ∙ drop-append_seam (flat_map rule_words (take i rs)) (rule_words r ++ p.0) in
         let m : at + size - at ≡ length (rule_words r) = omega (arith, rule_length r) in
         ap (λ (k : ℕ). take k (drop at ws)) m ∙ ap (take (length (rule_words r))) d ∙ take-append_seam (rule_words r) p.0
 

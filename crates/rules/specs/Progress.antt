@@ -1,5 +1,5 @@
 -- What readers give, and what those that fill a list have read so far.
-use Rattle.std.specs.Prelude.{◌≡◌, ℕ, suc, cond, nat_lt, List, ◌++◌, length, Ok, Err, Result}
+use Rattle.std.specs.Prelude.{◌≡◌, ℕ, suc, cond, nat_lt, List, ◌++◌, length, Ok, Err, MatchResult, Result}
 use Rattle.std.proofs.Common.{Bor}
 use Rattle.words.specs.Words.{name_in, count_in}
 use Rattle.grammar.specs.declared.reason.Reason.TheVariants.{OutOfRange}
@@ -25,3 +25,7 @@ read_atom read n ws =
 abbrev pub front : {A : Type 0} → List A → Parsed (List A) → Parsed (List A)
 front xs (ok ys us) = ok (xs ++ ys) us
 front xs (no r n) = no r n
+
+-- the result of a reader that adds what it reads: the values now, and the words after them; or the fault
+abbrev pub Adds : {A : Type 0} → List A → Parsed (List A) → List A → Result (Bor (List ℕ)) Fault → Type 0
+Adds old p new r = MatchResult r (λ rest. front old p ≡ ok new rest.now) (λ fault. front old p ≡ no fault.reason fault.left)

@@ -11,7 +11,7 @@ use grammar::{Head, Operand, Rule};
 use words::{Kind, Word};
 
 // How many words a few parts are written as.
-pub(crate) fn total_size<P: Part>(items: &[P]) -> usize
+fn total_size<P: Part>(items: &[P]) -> usize
     requires { length items.now ≤ 4 }
     ensures { result ≡ sum_by P.Part.words items.now }
 {
@@ -22,7 +22,7 @@ fn is_variable(operand: Operand, variable: u32) -> bool
     ensures { result ≡ is_var variable operand }
 {
     match operand {
-        Operand::Var(v) => v as u32 == variable,
+        Operand::Var(v) => u32::from(v) == variable,
         Operand::Const(_) => false,
     }
 }
@@ -36,7 +36,7 @@ fn head_has(head: Head, variable: u32) -> bool
 }
 
 // Whether a variable stands in a head of the rule.
-pub(crate) fn is_bound(rule: &Rule, variable: u32) -> bool
+fn is_bound(rule: &Rule, variable: u32) -> bool
     ensures { result ≡ binds (parts rule.now) variable }
 {
     rule.kept
@@ -107,7 +107,7 @@ pub(crate) fn first_fault(rules: &[Rule], ws: &[u32]) -> Option<(LoadFault, usiz
 {
     let mut at = 0;
     let mut last = 0;
-    for rule in rules.iter() {
+    for rule in rules {
         let size = rule_size(rule);
         if let Some((fault, offset)) = rule_fault(rule, last, &ws[at..at + size]) {
             return Some((fault, at + offset));

@@ -44,11 +44,7 @@ fn refusal(fault: LoadFault, place: usize, ws: &[u32]) -> Refusal
     ensures place { result.place ≡ place }
     ensures rules { result.rules ≡ rule_words_to ws.now place }
 {
-    let rules = if place < ws.len() {
-        count_rules(&ws[0..place + 1])
-    } else {
-        count_rules(ws)
-    };
+    let rules = count_rules(ws.get(..=place).unwrap_or(ws));
     Refusal {
         fault,
         place,
@@ -73,7 +69,7 @@ pub fn load(words: &[u32]) -> Result<Loaded, Refusal>
 {
     let (rules, rest) = match read_table(words) {
         Ok(read) => read,
-        // No map_err: what its closure gave didn't reach the proof of the place.
+        // With map_err in place of the match, the proof of the refusal's place didn't close.
         Err(fault) => return Err(refused(fault, words)),
     };
     if let Some((fault, place)) = first_fault(&rules, words) {

@@ -1,8 +1,8 @@
-ghost use Rattle.std.specs.Prelude.{◌≡◌, ℕ, ◌+◌, ◌-◌, ◌*◌, ◌/◌, ◌%◌, ◌^◌, ◌<◌, ◌≤◌, List, [], ◌∷◌, length, MatchResult, OnOk, IfOk};
+ghost use Rattle.std.specs.Prelude.{◌+◌, ◌≤◌, OnOk, IfOk};
 ghost use Rattle.arrayvec.specs.ArrayVec.{array_vec_len};
 ghost use Rattle.words.specs.Words.{tag};
-ghost use Rattle.grammar.specs.Reading.{Parsed, ok, no, read_parts};
-ghost use Rattle.rules.specs.Progress.{GivesAs, front};
+ghost use Rattle.grammar.specs.Reading.{read_parts};
+ghost use Rattle.rules.specs.Progress.{GivesAs, Adds};
 
 use crate::fault::Fault;
 use crate::part::Part;
@@ -19,7 +19,7 @@ fn read_more<'a, P: Part, const N: usize>(
     ws: &'a [u32],
 ) -> Result<&'a [u32], Fault>
     requires { array_vec_len parts.old + room ≤ N }
-    ensures reads { MatchResult result (λ x. front parts.old.items (read_parts P.Part.reads (tag kind) room ws.now) ≡ ok parts.new.items x.now) (λ e. front parts.old.items (read_parts P.Part.reads (tag kind) room ws.now) ≡ no e.reason e.left) }
+    ensures reads { Adds parts.old.items (read_parts P.Part.reads (tag kind) room ws.now) parts.new.items result }
     ensures few { OnOk result (array_vec_len parts.new ≤ array_vec_len parts.old + room) }
 {
     let left = ws.len();

@@ -21,7 +21,7 @@ pub(crate) fn first_rest(ws: &[u32]) -> Option<(u32, &[u32])>
     }
 }
 
-pub(crate) fn read_operand(ws: &[u32]) -> Result<(Operand, &[u32]), Fault>
+fn read_operand(ws: &[u32]) -> Result<(Operand, &[u32]), Fault>
     ensures { Gives (read_operand ws.now) result }
 {
     let left = ws.len();
@@ -43,7 +43,7 @@ pub(crate) fn read_operand(ws: &[u32]) -> Result<(Operand, &[u32]), Fault>
 }
 
 // Two operands, one after the other.
-pub(crate) fn read_pair(ws: &[u32]) -> Result<((Operand, Operand), &[u32]), Fault>
+fn read_pair(ws: &[u32]) -> Result<((Operand, Operand), &[u32]), Fault>
     ensures { Gives (read_pair ws.now) result }
 {
     let (a, rest) = read_operand(ws)?;

@@ -1,9 +1,9 @@
-ghost use Rattle.std.specs.Prelude.{◌≡◌, ℕ, ◌+◌, ◌-◌, ◌*◌, ◌/◌, ◌%◌, ◌^◌, ◌<◌, ◌≤◌, List, [], ◌∷◌, map, MatchResult};
+ghost use Rattle.std.specs.Prelude.{◌+◌, ◌≤◌, map};
 ghost use Rattle.arrayvec.specs.ArrayVec.{array_vec_len};
 ghost use Rattle.grammar.specs.Parts.{parts};
 ghost use Rattle.grammar.specs.Writing.{standard};
-ghost use Rattle.grammar.specs.Reading.{ok, no, read_rule, read_rules, read_table};
-ghost use Rattle.rules.specs.Progress.{GivesAs, front};
+ghost use Rattle.grammar.specs.Reading.{read_rule, read_rules, read_table};
+ghost use Rattle.rules.specs.Progress.{GivesAs, Adds};
 
 use crate::fault::Fault;
 use crate::parts::read_parts;
@@ -21,7 +21,7 @@ const MOST_GUARDS: usize = 4;
 const MOST_BODY: usize = 3;
 
 // The rest of a rule, given its label.
-pub(crate) fn read_rule(label: u16, ws: &[u32]) -> Result<(Rule, &[u32]), Fault>
+fn read_rule(label: u16, ws: &[u32]) -> Result<(Rule, &[u32]), Fault>
     ensures { GivesAs parts (read_rule standard label ws.now) result }
 {
     let (kept, rest) = read_parts(Kind::Kept, MOST_HEADS, ws)?;
@@ -50,7 +50,7 @@ fn read_rules<'a>(
     ws: &'a [u32],
 ) -> Result<&'a [u32], Fault>
     requires { array_vec_len rules.old + room ≤ 32 }
-    ensures { MatchResult result (λ x. front (map parts rules.old.items) (read_rules standard room ws.now) ≡ ok (map parts rules.new.items) x.now) (λ e. front (map parts rules.old.items) (read_rules standard room ws.now) ≡ no e.reason e.left) }
+    ensures { Adds (map parts rules.old.items) (read_rules standard room ws.now) (map parts rules.new.items) result }
 {
     let left = ws.len();
     let (first, after) = first_rest(ws).ok_or(Fault::out_of_turn(left))?;

@@ -29,7 +29,7 @@ const SUMS: [u32; 19] = [
 
 #[test]
 fn sums_and_differences(rt: HostRuntime) -> Result<(), Fail> {
-    let loaded = load(rt.alloc(), &SUMS)?;
+    let loaded = load(&SUMS)?;
     let rules = loaded.table.rules();
     assert!(rt; rules.len() == 1);
     let rule = &rules[0];
@@ -67,7 +67,7 @@ fn constants_of_a_head(rt: HostRuntime) -> Result<(), Fail> {
         0x7FFF_FFFF,
         END,
     ];
-    let loaded = load(rt.alloc(), &words)?;
+    let loaded = load(&words)?;
     let rules = loaded.table.rules();
     assert!(rt; rules.len() == 1);
     let rule = &rules[0];
@@ -95,7 +95,7 @@ fn tests_of_guards(rt: HostRuntime) -> Result<(), Fail> {
         (GUARD | 2, Test::Less),
         (GUARD | 3, Test::AtMost),
     ] {
-        let loaded = load(rt.alloc(), &[RULE | 1, TAKEN, word, CONST, CONST, END])?;
+        let loaded = load(&[RULE | 1, TAKEN, word, CONST, CONST, END])?;
         let rules = loaded.table.rules();
         assert!(rt; rules.len() == 1);
         assert!(rt; rules[0].guards.len() == 1);

@@ -20,7 +20,7 @@ fn kinds_in_order(rt: HostRuntime) {
         (0xE000_0000, Kind::Size),
         (0xF000_0000, Kind::End),
     ] {
-        let word = Word::read(top);
+        let word = Word::from(top);
         assert_eq!(rt; word.kind, kind);
         assert!(rt; word.is(kind) && word.is_clean());
     }
@@ -46,19 +46,19 @@ fn masks(rt: HostRuntime) {
         (0x9000_0000, 0x9000_0001),
         (0xF000_0000, 0xF001_0000),
     ] {
-        assert!(rt; Word::read(most).is_clean());
-        assert!(rt; !Word::read(stray).is_clean());
+        assert!(rt; Word::from(most).is_clean());
+        assert!(rt; !Word::from(stray).is_clean());
     }
-    assert!(rt; Word::read(0x7FFF_FFFF).is_clean());
+    assert!(rt; Word::from(0x7FFF_FFFF).is_clean());
 }
 
 #[test]
 fn fields_of_a_word(rt: HostRuntime) {
-    let word = Word::read(0x20FE_000D);
+    let word = Word::from(0x20FE_000D);
     assert_eq!(rt; word.payload, 0xFE_000D);
     assert_eq!(rt; word.name(), 0xFE);
     assert_eq!(rt; word.count(), 0xD);
-    assert_eq!(rt; Word::read(0x1000_FFFE).label(), 0xFFFE);
+    assert_eq!(rt; Word::from(0x1000_FFFE).label(), 0xFFFE);
     assert_eq!(rt; fact_word(Kind::Kept, 0xFE, 0xD), Some(0x20FE_000D));
     assert_eq!(rt; fact_word(Kind::Feed, 255, 15), Some(0xA0FF_000F));
     assert_eq!(rt; fact_word(Kind::Feed, 0, 16), None);
@@ -73,7 +73,7 @@ fn constants(rt: HostRuntime) {
         (0x7800_0000, -134_217_728),
         (0x7FFF_FFFF, -1),
     ] {
-        assert_eq!(rt; Word::read(bits).constant(), n);
+        assert_eq!(rt; Word::from(bits).constant(), n);
         assert_eq!(rt; constant_word(n), Some(bits));
     }
     assert_eq!(rt; constant_word(134_217_728), None);

@@ -1,41 +1,37 @@
 // Which of several faults is told.
 use crate::outcome::*;
-use std::test::Fail;
 
 #[test]
-fn the_leftmost_word_decides(rt: HostRuntime) -> Result<(), Fail> {
-    let heap = rt.alloc();
-    stray_bit(&rt, heap, &[FIRST, TAKEN | 0x10, 0, END], 1, 1)?;
-    out_of_turn(&rt, heap, &[FIRST, TAKEN, 0, END | 1], 2, 1)?;
-    out_of_range(&rt, heap, &[FIRST, TAKEN | 4, 0, END | 1], 1, 1)?;
-    stray_bit(&rt, heap, &[FIRST, TAKEN | 0x10], 1, 1)
+fn the_leftmost_word_decides(rt: HostRuntime) {
+    refuses(&rt, &[FIRST, TAKEN | 0x10, 0, END], StrayBit, 1, 1);
+    refuses(&rt, &[FIRST, TAKEN, 0, END | 1], OutOfTurn, 2, 1);
+    refuses(&rt, &[FIRST, TAKEN | 4, 0, END | 1], OutOfRange, 1, 1);
+    refuses(&rt, &[FIRST, TAKEN | 0x10], StrayBit, 1, 1);
 }
 
 #[test]
-fn one_word_with_several_faults(rt: HostRuntime) -> Result<(), Fail> {
-    let heap = rt.alloc();
-    stray_bit(&rt, heap, &[FIRST, TAKEN | 0x14, END], 1, 1)?;
-    stray_bit(&rt, heap, &[FIRST, TAKEN | 1, VAR | 0x18, END], 2, 1)?;
-    stray_bit(
+fn one_word_with_several_faults(rt: HostRuntime) {
+    refuses(&rt, &[FIRST, TAKEN | 0x14, END], StrayBit, 1, 1);
+    refuses(&rt, &[FIRST, TAKEN | 1, VAR | 0x18, END], StrayBit, 2, 1);
+    refuses(
         &rt,
-        heap,
         &[FIRST, TAKEN, TAKEN, TAKEN, TAKEN | 0x10, END],
+        StrayBit,
         4,
         1,
-    )?;
-    out_of_turn(&rt, heap, &[FIRST, VAR | 0x18, END], 1, 1)?;
-    out_of_turn(
+    );
+    refuses(&rt, &[FIRST, VAR | 0x18, END], OutOfTurn, 1, 1);
+    refuses(
         &rt,
-        heap,
         &[FIRST, TAKEN, TAKEN, TAKEN, KEPT | 4, END],
+        OutOfTurn,
         4,
         1,
-    )
+    );
 }
 
 #[test]
-fn words_before_rules(rt: HostRuntime) -> Result<(), Fail> {
-    let heap = rt.alloc();
+fn words_before_rules(rt: HostRuntime) {
     let words = [
         RULE,
         KEPT,
@@ -47,39 +43,42 @@ fn words_before_rules(rt: HostRuntime) -> Result<(), Fail> {
         TAKEN | 4,
         END,
     ];
-    out_of_range(&rt, heap, &words, 7, 3)?;
-    out_of_turn(&rt, heap, &words[0..6], 6, 2)
+    refuses(&rt, &words, OutOfRange, 7, 3);
+    refuses(&rt, &words[0..6], OutOfTurn, 6, 2);
 }
 
 #[test]
-fn rule_by_rule(rt: HostRuntime) -> Result<(), Fail> {
-    let heap = rt.alloc();
-    bad_label(
+fn rule_by_rule(rt: HostRuntime) {
+    refuses(
         &rt,
-        heap,
         &[RULE, TAKEN, FIRST, TAKEN, BODY | 1, VAR, END],
+        Label,
         0,
         1,
-    )?;
-    no_taken(
+    );
+    refuses(
         &rt,
-        heap,
         &[FIRST, KEPT, RULE | 2, TAKEN, BODY | 1, VAR, END],
+        NoTaken,
         0,
         1,
-    )?;
-    unbound(&rt, heap, &[RULE, KEPT, GUARD, CONST, VAR | 1, END], 4, 1)?;
-    no_taken(&rt, heap, &[RULE, KEPT, END], 0, 1)?;
-    no_taken(&rt, heap, &[RULE | 2, TAKEN, FIRST, KEPT, END], 2, 2)
+    );
+    refuses(
+        &rt,
+        &[RULE, KEPT, GUARD, CONST, VAR | 1, END],
+        Unbound,
+        4,
+        1,
+    );
+    refuses(&rt, &[RULE, KEPT, END], NoTaken, 0, 1);
+    refuses(&rt, &[RULE | 2, TAKEN, FIRST, KEPT, END], NoTaken, 2, 2);
 }
 
 // A variable counts as bound by the heads of its own rule, kept and taken.
 #[test]
-fn bound_variables(rt: HostRuntime) -> Result<(), Fail> {
-    let heap = rt.alloc();
+fn bound_variables(rt: HostRuntime) {
     loads(
         &rt,
-        heap,
         &[
             FIRST,
             KEPT | 1,
@@ -93,10 +92,9 @@ fn bound_variables(rt: HostRuntime) -> Result<(), Fail> {
         ],
         1,
         9,
-    )?;
-    unbound(
+    );
+    refuses(
         &rt,
-        heap,
         &[
             FIRST,
             TAKEN | 1,
@@ -108,17 +106,16 @@ fn bound_variables(rt: HostRuntime) -> Result<(), Fail> {
             VAR | 2,
             END,
         ],
+        Unbound,
         7,
         2,
-    )
+    );
 }
 
 #[test]
-fn the_first_unbound_variable(rt: HostRuntime) -> Result<(), Fail> {
-    let heap = rt.alloc();
-    unbound(
+fn the_first_unbound_variable(rt: HostRuntime) {
+    refuses(
         &rt,
-        heap,
         &[
             FIRST,
             TAKEN | 1,
@@ -131,14 +128,29 @@ fn the_first_unbound_variable(rt: HostRuntime) -> Result<(), Fail> {
             VAR | 5,
             END,
         ],
+        Unbound,
         6,
         1,
-    )?;
-    unbound(
+    );
+    refuses(
         &rt,
-        heap,
         &[FIRST, TAKEN | 1, CONST | 2, BODY | 1, VAR | 2, END],
+        Unbound,
         4,
         1,
-    )
+    );
+}
+
+#[test]
+fn numbers_of_faults(rt: HostRuntime) {
+    for (fault, number) in [
+        (OutOfTurn, 10),
+        (StrayBit, 11),
+        (OutOfRange, 12),
+        (Unbound, 13),
+        (NoTaken, 14),
+        (Label, 15),
+    ] {
+        assert_eq!(rt; u32::from(fault), number);
+    }
 }

@@ -1,7 +1,6 @@
-use rules::{LoadError, LoadFault, Refusal, load};
-use std::alloc::Global;
+pub(crate) use rules::LoadFault::{Label, NoTaken, OutOfRange, OutOfTurn, StrayBit, Unbound};
+use rules::{LoadFault, Refusal, load};
 use std::process::Abort;
-use std::test::Fail;
 
 // Kinds of words, with the payload 0.
 pub(crate) const RULE: u32 = 0x1000_0000;
@@ -29,99 +28,23 @@ pub(crate) const END: u32 = 0xF000_0000;
 // A RULE word with the label 1.
 pub(crate) const FIRST: u32 = 0x1000_0001;
 
-pub(crate) fn loads(
-    rt: &impl Abort,
-    heap: Global,
-    words: &[u32],
-    rules: usize,
-    used: usize,
-) -> Result<(), Fail> {
-    let loaded = load(heap, words)?;
+pub(crate) fn loads(rt: &impl Abort, words: &[u32], rules: usize, used: usize) {
+    let loaded = load(words).expect(rt, "the words are a table");
     assert_eq!(rt; loaded.table.rules().len(), rules);
     assert_eq!(rt; loaded.used, used);
-    Ok(())
 }
 
 pub(crate) fn refuses(
     rt: &impl Abort,
-    heap: Global,
     words: &[u32],
     fault: LoadFault,
     place: usize,
     rules: usize,
-) -> Result<(), Fail> {
-    match load(heap, words) {
-        Ok(_) => Err(Fail::new("it was loaded")),
-        Err(error) => {
-            assert_eq!(rt;
-                error,
-                LoadError::Refused(Refusal {
-                    fault,
-                    place,
-                    rules,
-                })
-            );
-            Ok(())
-        },
-    }
-}
-
-pub(crate) fn out_of_turn(
-    rt: &impl Abort,
-    heap: Global,
-    words: &[u32],
-    place: usize,
-    rules: usize,
-) -> Result<(), Fail> {
-    refuses(rt, heap, words, LoadFault::OutOfTurn, place, rules)
-}
-
-pub(crate) fn stray_bit(
-    rt: &impl Abort,
-    heap: Global,
-    words: &[u32],
-    place: usize,
-    rules: usize,
-) -> Result<(), Fail> {
-    refuses(rt, heap, words, LoadFault::StrayBit, place, rules)
-}
-
-pub(crate) fn out_of_range(
-    rt: &impl Abort,
-    heap: Global,
-    words: &[u32],
-    place: usize,
-    rules: usize,
-) -> Result<(), Fail> {
-    refuses(rt, heap, words, LoadFault::OutOfRange, place, rules)
-}
-
-pub(crate) fn unbound(
-    rt: &impl Abort,
-    heap: Global,
-    words: &[u32],
-    place: usize,
-    rules: usize,
-) -> Result<(), Fail> {
-    refuses(rt, heap, words, LoadFault::Unbound, place, rules)
-}
-
-pub(crate) fn no_taken(
-    rt: &impl Abort,
-    heap: Global,
-    words: &[u32],
-    place: usize,
-    rules: usize,
-) -> Result<(), Fail> {
-    refuses(rt, heap, words, LoadFault::NoTaken, place, rules)
-}
-
-pub(crate) fn bad_label(
-    rt: &impl Abort,
-    heap: Global,
-    words: &[u32],
-    place: usize,
-    rules: usize,
-) -> Result<(), Fail> {
-    refuses(rt, heap, words, LoadFault::Label, place, rules)
+) {
+    let refusal = Refusal {
+        fault,
+        place,
+        rules,
+    };
+    assert_eq!(rt; load(words).err(), Some(refusal));
 }

@@ -1,9 +1,8 @@
 use Rattle.std.proofs.Common.{◌≡◌, ℕ, ◌-◌, ◌<◌, true, eqb, sym, ap, ◌∙◌, subst, rules}
-use Rattle.std.proofs.lemmas.Result.{MatchResult-weaker}
 use Rattle.words.specs.Words.{tag, kind_of, clean}
 use Rattle.grammar.specs.Reading.{ok, read_parts}
 use Rattle.rules.specs.Progress.{front}
-use Rattle.rules.proofs.Steps.{parts_more}
+use Rattle.rules.proofs.Steps.{parts_more, adds_more}
 use Rattle.rules.proofs.parts.+read_more.Goals as goal
 
 pub returns-clause-reads : goal.returns-clause-reads
@@ -23,4 +22,4 @@ returns-clause-reads g t c =
     = parts_more read k c.args.room c.args.parts.now.items c.args.ws.now w c.in-Some.after.now c.in-Some.ensures
     e d r c.in_ok-part.part c.in_ok-part.next.now (subst (λ (n : ℕ). read n c.in-Some.after.now ≡ ok c.in_ok-part.part c.in_ok-part.next.now) j c.in_ok-part.ensures)
     ∙ ap (λ xs. front xs (read_parts read k (c.args.room - 1) c.in_ok-part.next.now)) (sym c.push.ensures.items) in
-    MatchResult-weaker c.read_more.result c.read_more.ensures.reads (λ x f. more ∙ f) (λ y f. more ∙ f)
+    adds_more _ _ _ _ _ c.read_more.result more c.read_more.ensures.reads

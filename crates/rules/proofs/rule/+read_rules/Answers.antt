@@ -1,12 +1,11 @@
 use Rattle.std.proofs.Common.{◌≡◌, ℕ, ◌-◌, ◌<◌, true, List, map, sym, ap, ◌∙◌, subst, rules}
 use Rattle.std.proofs.lemmas.List.{map_push}
-use Rattle.std.proofs.lemmas.Result.{MatchResult-weaker}
 use Rattle.words.specs.Words.{tag, kind_of, payload_of, clean, label_in}
 use Rattle.grammar.specs.Parts.{Parts, parts}
 use Rattle.grammar.specs.Writing.{standard}
 use Rattle.grammar.specs.Reading.{ok, read_rule, read_rules}
 use Rattle.rules.specs.Progress.{front}
-use Rattle.rules.proofs.Steps.{rules_more}
+use Rattle.rules.proofs.Steps.{rules_more, adds_more}
 use Rattle.rules.proofs.rule.+read_rules.Goals as goal
 
 pub returns-in_ok-rule-in-Rule : goal.returns-in_ok-rule-in-Rule
@@ -30,4 +29,4 @@ returns-in_ok-rule-in-Rule t c =
     ≡ front (map parts c.push.new.self.items) (read_rules standard (c.args.room - 1) next)
     = rules_more c.args.room (map parts c.args.rules.now.items) c.args.ws.now w c.in_ok-first.after.now (search rules) e d room (parts rule) next r
     ∙ ap (λ (xs : List Parts). front xs (read_rules standard (c.args.room - 1) next)) (sym (ap (map parts) c.push.ensures.items ∙ map_push parts c.args.rules.now.items rule)) in
-    MatchResult-weaker c.read_rules.result c.read_rules.ensures (λ x f. more ∙ f) (λ y f. more ∙ f)
+    adds_more _ _ _ _ _ c.read_rules.result more c.read_rules.ensures
