@@ -1,5 +1,5 @@
 -- What was read is what the loader promises.
-use Rattle.std.proofs.Common.{◌≡◌, ℕ, zero, suc, ◌-◌, ◌<◌, ◌≤◌, false, List, [], ◌∷◌, ◌++◌, map, length, take, Err, sym, ap, ◌∙◌, subst, arith, length-append}
+use Rattle.std.proofs.Common.{◌≡◌, ℕ, zero, suc, ◌-◌, ◌<◌, ◌≤◌, false, List, [], ◌∷◌, ◌++◌, map, length, take, Result, Ok, Err, IsErrAnd, MatchResult, refl, sym, ap, ◌∙◌, subst, arith, length-append}
 use Rattle.facts.specs.Lists.{Nth}
 use Rattle.grammar.specs.declared.reason.Reason.{Reason}
 use Rattle.grammar.specs.declared.reason.Reason.TheVariants.{OutOfTurn as TurnReason, StrayBit as BitReason, OutOfRange as RangeReason}
@@ -17,6 +17,23 @@ use Rattle.rules.specs.Faults.{RuleFault, FirstFault}
 use Rattle.rules.specs.declared.refusal.Refusal.{Refusal}
 use Rattle.rules.specs.Loading.{fault_of, Wrong, Loads}
 use Rattle.facts.proofs.Nths.{all_nth}
+
+ok_same : {T E : Type 0} (r : Result T E) (x y : T) → r ≡ Ok x → r ≡ Ok y → x ≡ y
+ok_same r x y h e = cc
+
+not_both : {T E : Type 0} (r : Result T E) (x : T) (d : E) → r ≡ Ok x → r ≡ Err d → ⊥
+not_both r x d h e = cc
+
+-- what a result was before map_err
+pub mapped_ok : {T E D : Type 0} (P : E → D → Type 0) (s : Result T E) (r : Result T D) (x : T) → MatchResult s (λ y. r ≡ Ok y) (λ e. IsErrAnd r (P e)) → r ≡ Ok x → s ≡ Ok x
+mapped_ok P (Ok y) r x h e = ap (λ v. Ok v) (ok_same r y x h e)
+mapped_ok P (Err f) (Ok y) x h e = absurd h
+mapped_ok P (Err f) (Err d) x h e = cc
+
+pub mapped_err : {T E D : Type 0} (P : E → D → Type 0) (s : Result T E) (r : Result T D) (d : D) → MatchResult s (λ y. r ≡ Ok y) (λ e. IsErrAnd r (P e)) → r ≡ Err d → (f : E) × (s ≡ Err f) × P f d
+mapped_err P (Ok y) r d h e = absurd (not_both r y d h e)
+mapped_err P (Err f) (Ok y) d h e = absurd h
+mapped_err P (Err f) (Err d) g h e = (f, refl, subst (P f) (let z : d ≡ g = cc in z) h)
 
 wrong_word : (ws : List ℕ) (place : ℕ) (r : Reason) → Faulty ws place r → Wrong ws (fault_of r) place
 wrong_word ws place TurnReason f = f

@@ -67,11 +67,7 @@ pub fn load(words: &[u32]) -> Result<Loaded, Refusal>
     ensures loads { Loads words.now result }
     ensures accepts { Accepts words.now result }
 {
-    let (rules, rest) = match read_table(words) {
-        Ok(read) => read,
-        // With map_err in place of the match, the proof of the refusal's place didn't close.
-        Err(fault) => return Err(refused(fault, words)),
-    };
+    let (rules, rest) = read_table(words).map_err(|fault| refused(fault, words))?;
     if let Some((fault, place)) = first_fault(&rules, words) {
         return Err(refusal(fault, place, words));
     }

@@ -1,43 +1,66 @@
-use Rattle.std.proofs.Common.{List, map, length, ap, ◌∙◌, subst}
+use Rattle.std.proofs.Common.{◌≡◌, ◌-◌, List, map, length, Ok, Err, ap, ◌∙◌, subst, rules}
 use Rattle.grammar.specs.declared.rule.Rule.{Rule}
 use Rattle.grammar.specs.Parts.{parts}
 use Rattle.grammar.specs.Validity.{Valid}
-use Rattle.grammar.specs.Writing.{written}
-use Rattle.rules.proofs.Loads.{refused_loads, word_accepts, lent, table_formed, table_words, table_left, table_used, table_same, fault_loads, fault_accepts}
+use Rattle.grammar.specs.Reading.{ok, no, read_table}
+use Rattle.grammar.specs.Writing.{standard, written}
+use Rattle.std.proofs.lemmas.Result.{err_from_is_err_and}
+use Rattle.grammar.specs.Faults.{rule_words_to}
+use Rattle.rules.specs.declared.fault.Fault.{Fault}
+use Rattle.rules.specs.Loading.{fault_of}
+use Rattle.rules.proofs.Loads.{mapped_ok, mapped_err, refused_loads, word_accepts, lent, table_formed, table_words, table_left, table_used, table_same, fault_loads, fault_accepts}
 use Rattle.rules.proofs.loader.load.Goals as goal
 
-pub returns-in-Err : goal.returns-in-Err
-returns-in-Err c =
-    let e = c.refused.ensures in
-    record {
-      loads = refused_loads c.args.words.now _ _ c.in-Err.ensures c.refused.result e.fault e.place e.rules;
-      accepts = word_accepts c.args.words.now _ _ c.in-Err.ensures;
-    }
+pub returns-in_err-rules : goal.returns-in_err-rules
+returns-in_err-rules c =
+    let x = c.in_err-rules.field-0.0 in
+    let k = mapped_err {E = Fault} _ _ _ x c.map_err.ensures.cases c.in_err-rules.was in
+    let was : c.read_table.result ≡ Err k.0 = k.1 in
+    let h : read_table standard c.args.words.now ≡ no k.0.reason k.0.left = rw was at c.read_table.ensures in
+    let said = k.2 in
+    let fault : x.fault ≡ fault_of k.0.reason = search rules in
+    let place : x.place ≡ length c.args.words.now - k.0.left = search rules in
+    let counted : x.rules ≡ rule_words_to c.args.words.now x.place = search rules in
+    let p = err_from_is_err_and c.from_residual.result c.from_residual.ensures.1 in
+    rw (p.1, p.2)
+    (record {
+      loads = refused_loads c.args.words.now _ _ h x fault place counted;
+      accepts = word_accepts c.args.words.now _ _ h;
+    })
 
 pub first_fault-requires : goal.first_fault-requires
 first_fault-requires c =
-    let h = (lent c.args.words.now c.in-Ok.read.1.now c.in-Ok.read.0.items c.deref.result.now c.in-Ok.ensures c.deref.ensures.0) in
-    record { formed = table_formed c.args.words.now _ _ h; begins = (c.in-Ok.read.1.now, table_words c.args.words.now _ _ h) }
+    let k : c.read_table.result ≡ Ok (c.in_ok-rules.rules, c.in_ok-rules.rest) = mapped_ok _ _ _ _ c.map_err.ensures.cases c.in_ok-rules.was in
+    let h : read_table standard c.args.words.now ≡ ok (map parts c.in_ok-rules.rules.items) c.in_ok-rules.rest.now = rw k at c.read_table.ensures in
+    let g = lent c.args.words.now c.in_ok-rules.rest.now c.in_ok-rules.rules.items c.deref.result.now h c.deref.ensures.0 in
+    record { formed = table_formed c.args.words.now _ _ g; begins = (c.in_ok-rules.rest.now, table_words c.args.words.now _ _ g) }
 
 pub returns-in-Some : goal.returns-in-Some
 returns-in-Some c =
-    let h = (lent c.args.words.now c.in-Ok.read.1.now c.in-Ok.read.0.items c.deref.result.now c.in-Ok.ensures c.deref.ensures.0) in
+    let k : c.read_table.result ≡ Ok (c.in_ok-rules.rules, c.in_ok-rules.rest) = mapped_ok _ _ _ _ c.map_err.ensures.cases c.in_ok-rules.was in
+    let h : read_table standard c.args.words.now ≡ ok (map parts c.in_ok-rules.rules.items) c.in_ok-rules.rest.now = rw k at c.read_table.ensures in
+    let g = lent c.args.words.now c.in_ok-rules.rest.now c.in_ok-rules.rules.items c.deref.result.now h c.deref.ensures.0 in
     let e = c.refusal.ensures in
     let f = c.in-Some.ensures.fault in
     record {
-      loads = fault_loads c.args.words.now _ _ h c.refusal.result c.in-Some.fault c.in-Some.place f e.fault e.place e.rules;
-      accepts = fault_accepts c.args.words.now _ _ h c.in-Some.fault c.in-Some.place f;
+      loads = fault_loads c.args.words.now _ _ g c.refusal.result c.in-Some.fault c.in-Some.place f e.fault e.place e.rules;
+      accepts = fault_accepts c.args.words.now _ _ g c.in-Some.fault c.in-Some.place f;
     }
 
 pub overflow_sub-result : goal.overflow_sub-result
-overflow_sub-result c = table_left c.args.words.now _ _ c.in-Ok.ensures
+overflow_sub-result c =
+    let k : c.read_table.result ≡ Ok (c.in_ok-rules.rules, c.in_ok-rules.rest) = mapped_ok _ _ _ _ c.map_err.ensures.cases c.in_ok-rules.was in
+    let h : read_table standard c.args.words.now ≡ ok (map parts c.in_ok-rules.rules.items) c.in_ok-rules.rest.now = rw k at c.read_table.ensures in
+    table_left c.args.words.now _ _ h
 
 pub returns : goal.returns
 returns c =
-    let u = table_used c.args.words.now _ _ c.in-Ok.ensures in
-    let same = table_same c.args.words.now _ _ c.in-Ok.ensures in
+    let k : c.read_table.result ≡ Ok (c.in_ok-rules.rules, c.in_ok-rules.rest) = mapped_ok _ _ _ _ c.map_err.ensures.cases c.in_ok-rules.was in
+    let h : read_table standard c.args.words.now ≡ ok (map parts c.in_ok-rules.rules.items) c.in_ok-rules.rest.now = rw k at c.read_table.ensures in
+    let u = table_used c.args.words.now _ _ h in
+    let same = table_same c.args.words.now _ _ h in
     let valid = subst (λ (rs : List Rule). Valid (map parts rs)) c.deref.ensures.0 c.in_default.ensures.valid in
     record {
-      loads = (valid, u, (c.in-Ok.read.1.now, table_words c.args.words.now _ _ c.in-Ok.ensures));
+      loads = (valid, u, (c.in_ok-rules.rest.now, table_words c.args.words.now _ _ h));
       accepts = λ rs us v e. (same rs us v e, u ∙ ap (λ qs. length (written qs)) (same rs us v e));
     }
