@@ -4,8 +4,7 @@ use Rattle.std.specs.List.{flat_map, AllByRecursion}
 use Rattle.std.proofs.lemmas.List.{append-nil, append_assoc, length-append, length_push, flat_map_more}
 use Rattle.std.proofs.ByRecursion.{All-append, All-push, All-weaker}
 use Rattle.words.specs.Words.{kind_of, payload_of, word}
-use Rattle.grammar.specs.Atoms.{Head, BodyFact}
-use Rattle.grammar.specs.declared.part.Guard.{Guard as GuardOf}
+use Rattle.grammar.specs.Atoms.{Head}
 use Rattle.grammar.specs.Parts.{Parts}
 use Rattle.grammar.specs.Writing.{head_words, guard_words, body_words, heads_words, tail_words, rule_words}
 use Rattle.grammar.specs.Sizes.{head_size, guard_size, body_size}

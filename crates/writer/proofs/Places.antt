@@ -1,6 +1,6 @@
 -- Words put one after the other are put together.
 use Rattle.std.proofs.Common.{◌≡◌, ℕ, ◌+◌, ◌<◌, ◌≤◌, List, [], ◌∷◌, ◌++◌, length, take, drop, set, sym, refl, ap, ◌∙◌, ap₂, add-zero, add-one, arith}
-use Rattle.std.proofs.lemmas.List.{append-nil, append_assoc, length-append, length-drop, length-take-le, take-append-drop, take_at, drop_at, drop-drop, set_split}
+use Rattle.std.proofs.lemmas.List.{append_assoc, length-append, length-drop, length-take-le, take-append-drop, take_at, drop_at, drop-drop, set_split}
 use Rattle.writer.specs.Memory.{placed}
 
 pub placed_none : (at : ℕ) (m : List ℕ) → m ≡ placed at [] m
@@ -50,9 +50,6 @@ front_placed at xs m h = front at (at + length xs) xs m refl h
 abbrev pub Puts : ℕ → List ℕ → List ℕ → ℕ → List ℕ → Type 0
 Puts at xs m n m' = (m' ≡ placed at xs m) × (n ≡ at + length xs)
 
-pub puts_none : (at : ℕ) (m : List ℕ) → Puts at [] m at m
-puts_none at m = (placed_none at m, sym (add-zero at))
-
 pub puts_one : (at w : ℕ) (m : List ℕ) → at < length m → Puts at (w ∷ []) m (at + 1) (set m at w)
 puts_one at w m h = (placed_one m at w h, refl)
 
@@ -65,9 +62,6 @@ puts_more at n r xs ys m m' m'' h p q =
     let f : r ≡ n + length ys = q.1 in
     (q.0 ∙ ap (placed n ys) p.0 ∙ placed_more at n xs ys m e k, omega arith)
 
-puts_last : (at n : ℕ) (xs m m' : List ℕ) → Puts at xs m n m' → Puts at (xs ++ []) m n m'
-puts_last at n xs m m' p = rw (append-nil xs) p
-
 -- the memory keeps its length, so that room for all is room for the later ones
 pub room_on : (at n : ℕ) (xs ys m m' : List ℕ) → at + length (xs ++ ys) ≤ length m → Puts at xs m n m' → n + length ys ≤ length m'
 room_on at n xs ys m m' h p =
@@ -76,13 +70,3 @@ room_on at n xs ys m m' h p =
     let i : length m' ≡ length m = ap length p.0 ∙ length_placed at xs m k in
     let e : n ≡ at + length xs = p.1 in
     omega arith
-
-pub puts_two : (at n r : ℕ) (xs ys m m' m'' : List ℕ) → at + length (xs ++ (ys ++ [])) ≤ length m →
-    Puts at xs m n m' → Puts n ys m' r m'' → Puts at (xs ++ (ys ++ [])) m r m''
-puts_two at n r xs ys m m' m'' h p q = puts_more at n r xs (ys ++ []) m m' m'' h p (puts_last n r ys m' m'' q)
-
-pub puts_three : (at n k r : ℕ) (xs ys zs m m' m'' m3 : List ℕ) → at + length (xs ++ (ys ++ (zs ++ []))) ≤ length m →
-    Puts at xs m n m' → Puts n ys m' k m'' → Puts k zs m'' r m3 → Puts at (xs ++ (ys ++ (zs ++ []))) m r m3
-puts_three at n k r xs ys zs m m' m'' m3 h p q s =
-    puts_more at n r xs (ys ++ (zs ++ [])) m m' m3 h p
-    (puts_two n k r ys zs m' m'' m3 (room_on at n xs (ys ++ (zs ++ [])) m m' h p) q s)

@@ -1,7 +1,7 @@
 -- Parts and rules of a list, written one after the other.
-use Rattle.std.proofs.Common.{◌≡◌, ℕ, ◌+◌, ◌<◌, ◌≤◌, List, [], ◌∷◌, ◌++◌, map, length, get_or, drop, set, sym, refl, ap, ◌∙◌, subst, ap₂, add-zero, arith}
+use Rattle.std.proofs.Common.{◌≡◌, ℕ, ◌+◌, ◌<◌, ◌≤◌, List, [], ◌∷◌, ◌++◌, map, length, get_or, drop, set, sym, refl, ap, ◌∙◌, subst, ap₂, arith}
 use Rattle.std.specs.List.{flat_map, AllByRecursion}
-use Rattle.std.proofs.lemmas.List.{append_assoc, length-append, drop_more, drop_all}
+use Rattle.std.proofs.lemmas.List.{append_assoc, length-append, drop_more}
 use Rattle.std.proofs.ByRecursion.{All-drop}
 use Rattle.words.specs.Words.{word}
 use Rattle.grammar.specs.Atoms.{Head, BodyFact}
@@ -10,7 +10,7 @@ use Rattle.grammar.specs.declared.rule.Rule.{Rule}
 use Rattle.grammar.specs.Writing.{head_words, guard_words, body_words}
 use Rattle.writer.specs.Memory.{placed}
 use Rattle.writer.specs.Tables.{words_of}
-use Rattle.writer.proofs.Places.{Puts, puts_one, puts_more, room_on, placed_none, placed_more}
+use Rattle.writer.proofs.Places.{Puts, puts_one, puts_more, room_on, placed_more}
 
 next_item : {X : Type 0} (xs : List X) (i : ℕ) (x : X) → i < length xs → x ≡ get_or xs i x → drop i xs ≡ x ∷ drop (i + 1) xs
 next_item xs i x h e = drop_more xs i x h ∙ ap (λ y. y ∷ drop (i + 1) xs) (sym e)
@@ -25,19 +25,9 @@ module _ {X : Type 0} (f : X → List ℕ) (xs : List X) (i : ℕ) where
       (placed end (flat_map f (drop i xs)) m ≡ placed at all before) × (end + length (flat_map f (drop i xs)) ≡ at + length all)
 
   module _ (end : ℕ) (m : List ℕ) (at : ℕ) (all before : List ℕ) (p : Left end m at all before) where
-    pub none_left : length xs ≤ i → Puts at all before end m
-    none_left h =
-        let e : flat_map f (drop i xs) ≡ [] = ap (flat_map f) (drop_all i xs h) in (
-          placed_none end m ∙ ap (λ (v : List ℕ). placed end v m) (sym e) ∙ p.0,
-          sym (add-zero end) ∙ ap (λ (v : List ℕ). end + length v) (sym e) ∙ p.1,
-        )
-
     module _ (x : X) (h : i < length xs) (e : x ≡ get_or xs i x) (room : at + length all ≤ length m) where
       words : flat_map f (drop i xs) ≡ f x ++ flat_map f (drop (i + 1) xs)
       words = ap (flat_map f) (next_item xs i x h e)
-
-      pub room_here : end + length (f x) ≤ length m
-      room_here = let w = ap length words in let l = length-append (f x) (flat_map f (drop (i + 1) xs)) in let q = p.1 in omega arith
 
       pub puts_next : (n : ℕ) (m' : List ℕ) → Puts end (f x) m n m' →
           (placed n (flat_map f (drop (i + 1) xs)) m' ≡ placed at all before) × (n + length (flat_map f (drop (i + 1) xs)) ≡ at + length all)

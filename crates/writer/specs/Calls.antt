@@ -10,7 +10,7 @@ use Rattle.writer.specs.declared.table.TableWriter.{TableWriter}
 use Rattle.writer.specs.declared.tally.Tally.{Tally}
 use Rattle.writer.specs.Refusals.{Wrote, WroteNothing}
 use Rattle.writer.specs.Tallies.{Fits, IsBound, part_words, begun, added}
-use Rattle.writer.specs.Tables.{Opened, with_part}
+use Rattle.writer.specs.Tables.{Tabled, Opened, labelled, with_part, Ended}
 
 -- a part is added: its words are written, and the numbers count it
 abbrev pub Added : Tally → Part → (before after : List ℕ) → Tally → Type 0
@@ -35,21 +35,34 @@ Grows from to rule p before after answer =
     (rs : List Parts) (r : Parts) → Opened rule.tally before rs r → from r →
     MatchResult answer (λ x. Opened x.0.tally after rs (with_part r p) × to (with_part r p)) (λ e. Opened e.state.tally after rs r × from r)
 
--- a rule is begun
-abbrev pub Begins : TableWriter → ℕ → (before after : List ℕ) → Tally → Type 0
-Begins w label before after t =
-    Wrote (w.rules < 32) (Unit {0}) (w.last < label) w.used (word 1 label ∷ []) before after × (t ≡ begun w.used w.rules label)
-
-abbrev pub NotBegun : TableWriter → ℕ → (before after : List ℕ) → Refusal → Type 0
-NotBegun w label before after why = WroteNothing (w.rules < 32) (Unit {0}) (w.last < label) w.used (word 1 label ∷ []) before after why
-
--- a table is ended
-abbrev pub Ends : TableWriter → (before after : List ℕ) → Type 0
-Ends w before after = Wrote (Unit {0}) (Unit {0}) (Unit {0}) w.used (word 15 0 ∷ []) before after
-
-abbrev pub NotEnded : TableWriter → (before after : List ℕ) → Refusal → Type 0
-NotEnded w before after why = WroteNothing (Unit {0}) (Unit {0}) (Unit {0}) w.used (word 15 0 ∷ []) before after why
+-- what a call on a table with no open rule answers
+abbrev pub TableAnswer : Type 0 → Type 0
+TableAnswer T = Result T (Refused TableWriter)
 
 -- a refused call gives the table back as it was, and the words so far
 abbrev pub Stays : TableWriter → Refused TableWriter → Type 0
 Stays w e = (e.state ≡ w) × (e.used ≡ w.used)
+
+-- a call begins a rule of this label, or gives the table back as it was
+abbrev pub Begins : {S : Type 0} → TableWriter → ℕ → (before after : List ℕ) → TableAnswer (OpenRule S × ℕ) → Type 0
+Begins w label before after answer =
+    MatchResult answer
+    (λ x. Wrote (w.rules < 32) (Unit {0}) (w.last < label) w.used (word 1 label ∷ []) before after × (x.0.tally ≡ begun w.used w.rules label) × (x.1 ≡ x.0.tally.used))
+    (λ e. WroteNothing (w.rules < 32) (Unit {0}) (w.last < label) w.used (word 1 label ∷ []) before after e.why × Stays w e)
+
+-- the words so far are those of the closed rules, behind which a call begins one; a refused call keeps them
+abbrev pub Opens : {S : Type 0} → (to : Parts → Type 0) → TableWriter → ℕ → (before after : List ℕ) → TableAnswer (OpenRule S × ℕ) → Type 0
+Opens to w label before after answer =
+    (rs : List Parts) → Tabled w before rs →
+    MatchResult answer (λ x. Opened x.0.tally after rs (labelled label) × to (labelled label)) (λ e. Tabled e.state after rs)
+
+-- a call ends the table, or gives it back as it was
+abbrev pub Ends : TableWriter → (before after : List ℕ) → TableAnswer ℕ → Type 0
+Ends w before after answer =
+    MatchResult answer (λ n. Wrote (Unit {0}) (Unit {0}) (Unit {0}) w.used (word 15 0 ∷ []) before after × (n ≡ w.used + 1))
+    (λ e. WroteNothing (Unit {0}) (Unit {0}) (Unit {0}) w.used (word 15 0 ∷ []) before after e.why × Stays w e)
+
+-- a call makes the closed rules an ended table; a refused call keeps the words so far
+abbrev pub Completes : TableWriter → (before after : List ℕ) → TableAnswer ℕ → Type 0
+Completes w before after answer =
+    (rs : List Parts) → Tabled w before rs → MatchResult answer (λ n. Ended n before after rs) (λ e. Tabled e.state after rs)

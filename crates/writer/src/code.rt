@@ -11,11 +11,10 @@ ghost use Rattle.arrayvec.specs.ArrayVec.{array_vec_len};
 ghost use Rattle.writer.specs.Tallies.{Formed, part_words};
 
 use crate::part::Part;
+use crate::variables::LAST_VAR;
 use arrayvec::ArrayVec;
 use grammar::{Args, Atom, Guard, Operand, Term, Test};
 use words::{Kind, Word, constant_word, fact_word};
-
-const LAST_VAR: u8 = 7;
 
 // The words of a part: a first word, and at most three for each of three arguments.
 pub type Code = ArrayVec<u32, 10>;

@@ -5,14 +5,15 @@ ghost use Rattle.writer.specs.Variables.{free_of, Within, bind_operand, bind_hea
 use grammar::{Head, Operand};
 use words::{Kind, Word};
 
-const LAST_VAR: u32 = 7;
+pub const LAST_VAR: u8 = 7;
 
 // Whether a word is a VAR word whose variable is not among these.
 fn is_free(word: u32, variables: u8) -> bool
     ensures { result ≡ free_of variables word }
 {
     let word = Word::from(word);
-    word.is(Kind::Var) && (word.payload > LAST_VAR || (variables >> word.payload) % 2 == 0)
+    word.is(Kind::Var)
+        && (word.payload > u32::from(LAST_VAR) || (variables >> word.payload) % 2 == 0)
 }
 
 // Whether every variable in these words is among these.

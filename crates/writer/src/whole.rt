@@ -84,7 +84,7 @@ fn put_rule(memory: &mut [u32], at: usize, rule: &Rule) -> usize
     put_parts(memory, at, body, Kind::Body)
 }
 
-// Puts the words of the rules from the first place on.
+// Puts the words of the rules from the first place on. It is no call of `put_parts`: a rule's words are of four kinds.
 fn put_rules(memory: &mut [u32], rules: &[Rule]) -> usize
     requires formed { ∥ AllByRecursion FormedRuleOf rules.now ∥₁ }
     requires room { length (flat_map words_of rules.now) ≤ length memory.old }

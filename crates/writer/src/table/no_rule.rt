@@ -1,10 +1,7 @@
-ghost use Rattle.std.specs.Prelude.{◌≡◌, List, ℕ, [], ◌∷◌, ◌<◌, ◌+◌, MatchResult};
-ghost use Rattle.words.specs.Words.{word};
-ghost use Rattle.grammar.specs.Parts.{Parts};
+ghost use Rattle.std.specs.Prelude.{◌≡◌, List, ℕ, []};
 ghost use Rattle.writer.specs.Stages.{IsBegun};
-ghost use Rattle.writer.specs.Tallies.{begun};
-ghost use Rattle.writer.specs.Tables.{Tabled, Opened, labelled, Ended};
-ghost use Rattle.writer.specs.Calls.{Begins, NotBegun, Ends, NotEnded, Stays};
+ghost use Rattle.writer.specs.Tables.{Tabled};
+ghost use Rattle.writer.specs.Calls.{Begins, Opens, Ends, Completes};
 
 use crate::add::add_words;
 use crate::code::word_of;
@@ -46,8 +43,8 @@ impl TableWriter {
         memory: &mut [u32],
         label: u16,
     ) -> Result<(Begun, usize), Refused<TableWriter>>
-        ensures does { MatchResult result (λ x. Begins self label memory.old memory.new x.0.tally × (x.1 ≡ x.0.tally.used)) (λ e. NotBegun self label memory.old memory.new e.why × Stays self e) }
-        ensures table { (rs : List Parts) → Tabled self memory.old rs → MatchResult result (λ x. Opened x.0.tally memory.new rs (labelled label) × IsBegun (labelled label)) (λ e. Tabled e.state memory.new rs) }
+        ensures does { Begins self label memory.old memory.new result }
+        ensures table { Opens IsBegun self label memory.old memory.new result }
     {
         if self.rules >= MOST_RULES {
             return Err(self.refused(Refusal::OutOfRange));
@@ -83,8 +80,8 @@ impl TableWriter {
 
     // Ends the table; answers its words.
     pub fn end(self, memory: &mut [u32]) -> Result<usize, Refused<TableWriter>>
-        ensures does { MatchResult result (λ n. Ends self memory.old memory.new × (n ≡ self.used + 1)) (λ e. NotEnded self memory.old memory.new e.why × Stays self e) }
-        ensures table { (rs : List Parts) → Tabled self memory.old rs → MatchResult result (λ n. Ended n memory.old memory.new rs) (λ e. Tabled e.state memory.new rs) }
+        ensures does { Ends self memory.old memory.new result }
+        ensures table { Completes self memory.old memory.new result }
     {
         match add_words(memory, self.used, &[word_of(Kind::End, 0)]) {
             Ok(_) => Ok(self.give_up() + 1),

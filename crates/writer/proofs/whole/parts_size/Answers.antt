@@ -1,4 +1,4 @@
-use Rattle.std.proofs.Common.{◌≡◌, ℕ, sum_by, sym, ◌∙◌, arith}
+use Rattle.std.proofs.Common.{◌≡◌, sum_by, sym, ◌∙◌, arith}
 use Rattle.std.proofs.lemmas.Grind.{common_steps}
 use Rattle.grammar.proofs.Sizes.{length_joined}
 use Rattle.writer.proofs.whole.parts_size.Goals as goal

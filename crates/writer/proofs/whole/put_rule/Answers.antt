@@ -3,7 +3,7 @@ use Rattle.words.specs.Words.{word}
 use mathlib.Core.Logic.{∥∥₁_map}
 use Rattle.std.specs.List.{AllByRecursion}
 use Rattle.grammar.specs.Writing.{FormedHead, FormedGuard, FormedBody}
-use Rattle.writer.proofs.Rows.{IsListed, kept_fit, taken_fit, guards_fit, body_fit, rule_put}
+use Rattle.writer.proofs.Rows.{IsListed, taken_fit, guards_fit, body_fit, rule_put}
 use Rattle.writer.proofs.whole.put_rule.Goals as goal
 
 pub put_parts-at-requires-clause-formed : goal.put_parts-at-requires-clause-formed

@@ -1,4 +1,4 @@
-use Rattle.std.proofs.Common.{List, ◌∙◌, ap, length}
+use Rattle.std.proofs.Common.{◌∙◌, ap, length}
 use Rattle.words.specs.Words.{word}
 use Rattle.writer.proofs.Rows.{kept_words, taken_words, guards_words, bodies_words, rule_size_lem}
 use Rattle.writer.proofs.whole.rule_size.Goals as goal

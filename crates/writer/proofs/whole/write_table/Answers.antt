@@ -1,4 +1,4 @@
-use Rattle.std.proofs.Common.{◌≡◌, ◌<◌, ◌+◌, ℕ, List, map, length, set, refl, ap, ◌∙◌, zero-add, sym, arith}
+use Rattle.std.proofs.Common.{◌≡◌, ◌<◌, map, length, set, refl, ap, ◌∙◌, zero-add, sym, arith}
 use mathlib.Core.Logic.{∥∥₁_map}
 use Rattle.std.specs.List.{flat_map}
 use Rattle.grammar.specs.Parts.{parts}

@@ -1,4 +1,4 @@
-use Rattle.std.proofs.Common.{◌≡◌, ◌+◌, [], ◌∷◌, ap, ◌∙◌}
+use Rattle.std.proofs.Common.{◌+◌, [], ◌∷◌, ap, ◌∙◌}
 use Rattle.writer.specs.Memory.{placed}
 use Rattle.writer.proofs.Ends.{table_ended}
 use Rattle.writer.proofs.table.TableWriter.end.Goals as goal

@@ -1,4 +1,4 @@
-use Rattle.std.proofs.Common.{◌≡◌, ◌∙◌}
+use Rattle.std.proofs.Common.{◌∙◌}
 use Rattle.writer.proofs.Adds.{wrote_part}
 use Rattle.writer.proofs.tally.Tally.add.Goals as goal
 
