@@ -2,4 +2,4 @@
 
 pub mod load;
 
-pub use load::{LoadAnswer, answer_of, load_line};
+pub use load::LoadAnswer;

@@ -1,11 +1,10 @@
-ghost use Rattle.std.specs.Prelude.{◌≡◌, IfOk, string_bytes};
-ghost use Rattle.rules.specs.Loading.{code};
-ghost use Rattle.answers.specs.Answers.{Answer, answered, load_line};
+ghost use Rattle.std.specs.Prelude.{◌≡◌, Some};
+ghost use Rattle.answers.specs.Answers.{answered, load_line};
 
-use rules::{LoadError, LoadFault, Loaded};
-use std::alloc::{AllocError, Global};
+use rules::{Loaded, Refusal};
+use std::fmt;
 
-// A load's answer as its number and two numbers more.
+// A load's answer as its number and two numbers more, shown as the line that says so.
 #[derive(Clone, Copy)]
 pub struct LoadAnswer {
     pub code: u32,
@@ -13,46 +12,30 @@ pub struct LoadAnswer {
     pub q: usize,
 }
 
-fn fault_code(fault: LoadFault) -> u32
-    ensures { result ≡ code fault }
-{
-    match fault {
-        LoadFault::OutOfTurn => 10,
-        LoadFault::StrayBit => 11,
-        LoadFault::OutOfRange => 12,
-        LoadFault::Unbound => 13,
-        LoadFault::NoTaken => 14,
-        LoadFault::Label => 15,
+impl From<&Result<Loaded, Refusal>> for LoadAnswer {
+    ghost from_gives = { λ loaded answer. answer ≡ answered loaded.now };
+
+    fn from(res: &Result<Loaded, Refusal>) -> LoadAnswer {
+        match res {
+            Ok(loaded) => LoadAnswer {
+                code: 0,
+                p: loaded.table.rules().len(),
+                q: loaded.used,
+            },
+            Err(refusal) => LoadAnswer {
+                code: u32::from(refusal.fault),
+                p: refusal.place,
+                q: refusal.rules,
+            },
+        }
     }
 }
 
-pub fn answer_of(res: &Result<Loaded, LoadError>) -> LoadAnswer
-    ensures { record { code = result.code; p = result.p; q = result.q } ≡ answered res.now }
-{
-    match res {
-        Ok(loaded) => LoadAnswer {
-            code: 0,
-            p: loaded.table.rules().len(),
-            q: loaded.used,
-        },
-        Err(LoadError::Refused(f)) => LoadAnswer {
-            code: fault_code(f.fault),
-            p: f.place,
-            q: f.rules,
-        },
-        Err(LoadError::Memory) => LoadAnswer {
-            code: 31,
-            p: 0,
-            q: 0,
-        },
-    }
-}
+impl fmt::Display for LoadAnswer {
+    ghost output = { λ answer. Some (load_line answer) };
 
-pub fn load_line(heap: Global, answer: LoadAnswer) -> Result<String, AllocError>
-    ensures { IfOk result (λ s. string_bytes s ≡ load_line (record { code = answer.code; p = answer.p; q = answer.q })) }
-{
-    let code = answer.code;
-    let p = answer.p;
-    let q = answer.q;
-    format!(in heap; "load {code} {p} {q}")
+    fn fmt<W: fmt::Write>(&self, f: &mut fmt::Formatter<W>) -> fmt::Result {
+        let LoadAnswer { code, p, q } = *self;
+        write!(f, "load {code} {p} {q}")
+    }
 }

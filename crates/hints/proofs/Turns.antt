@@ -1,11 +1,13 @@
 -- What a load of words with one word more says of the kinds that are in turn after the words.
-use Rattle.std.proofs.Common.{◌≡◌, ℕ, zero, suc, ◌+◌, ◌-◌, ◌<◌, ◌≤◌, Bool, true, false, eqb, ◌⊎◌, List, [], ◌∷◌, ◌++◌, length, take, drop, Some, Err, sym, refl, ap, ◌∙◌, subst, inl, inr, ⊎_elim, append_assoc, append-nil, arith, length-append, take-append-drop}
-use lib.Seq.{take-append_seam, take-append-le}
+use Rattle.std.proofs.Common.{◌≡◌, ℕ, suc, ◌+◌, ◌-◌, ◌<◌, ◌≤◌, true, false, eqb, List, [], ◌∷◌, ◌++◌, length, take, drop, sym, ap, ◌∙◌, subst, ⊎_elim, append_assoc, append-nil, arith, length-append, take-append-drop}
+use lib.Seq.{take-append_seam, take-append-le, take-append-add}
+use Rattle.std.proofs.lemmas.Bool.{cases_lt}
 use Rattle.std.proofs.lemmas.Bool.Decides.{nat_tests}
-use Rattle.std.proofs.lemmas.List.{take_all}
+use Rattle.std.proofs.lemmas.List.{take_all, nil_from_length}
 use Rattle.facts.specs.Lists.{Nth}
 use Rattle.facts.proofs.Nths.{nth_within}
 use Rattle.words.specs.Words.{kind_of, word}
+use Rattle.grammar.specs.declared.reason.Reason.{Reason}
 use Rattle.grammar.specs.declared.reason.Reason.TheVariants.{OutOfTurn as TurnReason, StrayBit as BitReason, OutOfRange as RangeReason}
 use Rattle.grammar.specs.Parts.{Parts}
 use Rattle.grammar.specs.Writing.{Limits, standard, Formed, written}
@@ -13,10 +15,8 @@ use Rattle.grammar.specs.Faults.{Begins, Holds, InTurn, Why, Faulty}
 use Rattle.grammar.proofs.Payloads.{kind_word}
 use Rattle.rules.specs.declared.refusal.LoadFault.{LoadFault}
 use Rattle.rules.specs.declared.refusal.LoadFault.TheVariants.{OutOfTurn, StrayBit, OutOfRange, Unbound, NoTaken, Label}
-use Rattle.rules.specs.declared.refusal.LoadError.{LoadError}
-use Rattle.rules.specs.declared.refusal.LoadError.TheVariants.{Refused, Memory}
-use Rattle.rules.specs.Loading.{Wrong, Loads}
-use Rattle.hints.specs.Follows.{Follows, other, Shown}
+use Rattle.rules.specs.Loading.{Wrong}
+use Rattle.hints.specs.Follows.{Follows, other}
 
 nth_last : (xs : List ℕ) (x w : ℕ) → Nth (xs ++ x ∷ []) (length xs) w → w ≡ x
 nth_last [] x w h = sym h
@@ -30,21 +30,6 @@ shorter L xs n b = (
   b.2,
   sym (append_assoc (take n xs) (drop n xs) b.1) ∙ ap (λ (v : List ℕ). v ++ b.1) (take-append-drop n xs) ∙ b.3,
 )
-
-none_left : (us : List ℕ) → length us ≡ 0 → us ≡ []
-none_left [] h = refl
-none_left (u ∷ us) h = absurd (omega arith)
-
-take_past : (xs ys : List ℕ) (n : ℕ) → take (length xs + n) (xs ++ ys) ≡ xs ++ take n ys
-take_past [] ys n = ap (λ (k : ℕ). take k ys) (omega arith)
-take_past (x ∷ xs) ys n =
-    let e : length (x ∷ xs) + n ≡ suc (length xs + n) = omega arith in
-    ap (λ (k : ℕ). take k (x ∷ (xs ++ ys))) e ∙ ap (λ (v : List ℕ). x ∷ v) (take_past xs ys n)
-
-sides : (m n : ℕ) → (m ≤ n) ⊎ (n < m)
-sides zero n = inl (omega arith)
-sides (suc m) zero = inr (omega arith)
-sides (suc m) (suc n) = ⊎_elim (λ (h : m ≤ n). inl (omega arith)) (λ (h : n < m). inr (omega arith)) (sides m n)
 
 module _ (before : List ℕ) (k : ℕ) (ws : List ℕ) (e : ws ≡ before ++ word k 0 ∷ []) where
   longer : length ws ≡ suc (length before)
@@ -60,9 +45,6 @@ module _ (before : List ℕ) (k : ℕ) (ws : List ℕ) (e : ws ≡ before ++ wor
   whole_turn : (Holds standard before → ⊥) → (rs : List Parts) (us : List ℕ) → Formed standard rs → ws ≡ written rs ++ us → InTurn before k
   whole_turn none rs us f g =
       ⊎_elim
-      (λ (h : length ws ≤ length (written rs)).
-      let l : length us ≡ 0 = omega (arith, ap length g, length-append (written rs) us) in
-      begins_turn (rs, [], f, append-nil ws ∙ g ∙ ap (λ (v : List ℕ). written rs ++ v) (none_left us l) ∙ append-nil (written rs)))
       (λ (h : length (written rs) < length ws).
       let n : length before ≡ length (written rs) + (length before - length (written rs)) = omega (arith, longer) in
       absurd (none (
@@ -70,9 +52,12 @@ module _ (before : List ℕ) (k : ℕ) (ws : List ℕ) (e : ws ≡ before ++ wor
         take (length before - length (written rs)) us,
         f,
         sym front ∙ ap (λ (m : ℕ). take m ws) n ∙ ap (take (length (written rs) + (length before - length (written rs)))) g
-            ∙ take_past (written rs) us (length before - length (written rs)),
+            ∙ take-append-add (written rs) us (length before - length (written rs)),
       )))
-      (sides (length ws) (length (written rs)))
+      (λ (h : length ws ≤ length (written rs)).
+      let l : length us ≡ 0 = omega (arith, ap length g, length-append (written rs) us) in
+      begins_turn (rs, [], f, append-nil ws ∙ g ∙ ap (λ (v : List ℕ). written rs ++ v) (nil_from_length us l) ∙ append-nil (written rs)))
+      (cases_lt (length (written rs)) (length ws))
 
   module _ (b : Begins standard before) where
     -- no word before the last is at fault
@@ -80,12 +65,12 @@ module _ (before : List ℕ) (k : ℕ) (ws : List ℕ) (e : ws ≡ before ++ wor
     at_last place w n h =
         let l : place < length ws = nth_within ws place w n in
         ⊎_elim
-        (λ (g : length before ≤ place). omega (arith, longer))
         (λ (g : place < length before).
         let t : take (suc place) ws ≡ take (suc place) before
         = ap (take (suc place)) e ∙ take-append-le (suc place) before (word k 0 ∷ []) (omega arith) in
         absurd (h (subst (λ (v : List ℕ). Begins standard v) (sym t) (shorter standard before (suc place) b))))
-        (sides (length before) place)
+        (λ (g : length before ≤ place). omega (arith, longer))
+        (cases_lt place (length before))
 
     same : (place w : ℕ) → place ≡ length before → Nth ws place w → (take place ws ≡ before) × (kind_of w ≡ k)
     same place w p n =
@@ -118,47 +103,34 @@ module _ (before : List ℕ) (k : ℕ) (ws : List ℕ) (e : ws ≡ before ++ wor
         absurd (p (at_last place h.0 h.1 h.2)))
         f.stops
 
-    stray : (place : ℕ) → Faulty ws place BitReason → InTurn before k
-    stray place f =
+    -- a word at fault for another reason is the last, and its kind is in turn
+    spoilt : (place : ℕ) (reason : Reason) → (reason ≡ TurnReason → ⊥) → ((w : ℕ) → Why (take place ws) w reason → InTurn (take place ws) (kind_of w)) → Faulty ws place reason → InTurn before k
+    spoilt place reason n y f =
         ⊎_elim
-        (λ (h : (place ≡ length ws) × (BitReason ≡ TurnReason)). absurd (let z : ◌≡◌ {A = ℕ} 0 1 = cc h.1 in omega arith))
-        (λ (h : (w : ℕ) × Nth ws place w × (Begins standard (take (suc place) ws) → ⊥) × Why (take place ws) w BitReason).
-        turned place h.0 (same place h.0 (at_last place h.0 h.1 h.2) h.1) h.3.0)
-        f.stops
-
-    ranged : (place : ℕ) → Faulty ws place RangeReason → InTurn before k
-    ranged place f =
-        ⊎_elim
-        (λ (h : (place ≡ length ws) × (RangeReason ≡ TurnReason)). absurd (let z : ◌≡◌ {A = ℕ} 0 1 = cc h.1 in omega arith))
-        (λ (h : (w : ℕ) × Nth ws place w × (Begins standard (take (suc place) ws) → ⊥) × Why (take place ws) w RangeReason).
-        turned place h.0 (same place h.0 (at_last place h.0 h.1 h.2) h.1) h.3.0)
+        (λ (h : (place ≡ length ws) × (reason ≡ TurnReason)). absurd (n h.1))
+        (λ (h : (w : ℕ) × Nth ws place w × (Begins standard (take (suc place) ws) → ⊥) × Why (take place ws) w reason).
+        turned place h.0 (same place h.0 (at_last place h.0 h.1 h.2) h.1) (y h.0 h.3))
         f.stops
 
     -- a refusal is "out of turn at the last word" exactly where the kind is not in turn
     refused_yes : (Holds standard before → ⊥) → (fault : LoadFault) (place : ℕ) → Wrong ws fault place → other fault place (length before) ≡ true → InTurn before k
-    refused_yes none OutOfTurn place f h = ended place f (λ p. let z : eqb place (length before) ≡ true = grind (arith, nat_tests) in let y : ◌≡◌ {A = ℕ} 0 1 = cc in omega arith)
-    refused_yes none StrayBit place f h = stray place f
-    refused_yes none OutOfRange place f h = ranged place f
+    refused_yes none OutOfTurn place f h = ended place f (λ p. let z : eqb place (length before) ≡ true = grind (arith, nat_tests) in cc)
+    refused_yes none StrayBit place f h = spoilt place BitReason (λ i. cc) (λ w y. y.0) f
+    refused_yes none OutOfRange place f h = spoilt place RangeReason (λ i. cc) (λ w y. y.0) f
     refused_yes none Unbound place f h = whole_turn none f.0 f.1 f.2 f.3
     refused_yes none NoTaken place f h = whole_turn none f.0 f.1 f.2 f.3
     refused_yes none Label place f h = whole_turn none f.0 f.1 f.2 f.3
 
     refused_no : (fault : LoadFault) (place : ℕ) → Wrong ws fault place → other fault place (length before) ≡ false → InTurn before k → ⊥
     refused_no OutOfTurn place f h t = out place f (grind (arith, nat_tests)) t
-    refused_no StrayBit place f h t = let z : ◌≡◌ {A = ℕ} 0 1 = cc in omega arith
-    refused_no OutOfRange place f h t = let z : ◌≡◌ {A = ℕ} 0 1 = cc in omega arith
-    refused_no Unbound place f h t = let z : ◌≡◌ {A = ℕ} 0 1 = cc in omega arith
-    refused_no NoTaken place f h t = let z : ◌≡◌ {A = ℕ} 0 1 = cc in omega arith
-    refused_no Label place f h t = let z : ◌≡◌ {A = ℕ} 0 1 = cc in omega arith
+    refused_no StrayBit place f h t = cc
+    refused_no OutOfRange place f h t = cc
+    refused_no Unbound place f h t = cc
+    refused_no NoTaken place f h t = cc
+    refused_no Label place f h t = cc
 
   pub accepted : (rs : List Parts) (us : List ℕ) → Formed standard rs → ws ≡ written rs ++ us → Follows before k true
-  accepted rs us f g b none = (λ h. whole_turn none rs us f g, λ h t. let z : ◌≡◌ {A = ℕ} 0 1 = cc in omega arith)
+  accepted rs us f g b none = (λ h. whole_turn none rs us f g, λ h t. cc)
 
-  refused : (fault : LoadFault) (place : ℕ) → Wrong ws fault place → Follows before k (other fault place (length before))
+  pub refused : (fault : LoadFault) (place : ℕ) → Wrong ws fault place → Follows before k (other fault place (length before))
   refused fault place f b none = (λ h. refused_yes b none fault place f h, λ h t. refused_no b fault place f h t)
-
-  pub told : (error : LoadError) (b : Bool) → Loads ws (Err error) → Shown error (length before) (Some b) → Follows before k b
-  told (Refused f) b l h =
-      let e : other f.fault f.place (length before) ≡ b = cc in
-      subst (λ (x : Bool). Follows before k x) e (refused f.fault f.place l.0)
-  told Memory b l h = absurd (let z : ◌≡◌ {A = ℕ} 0 1 = cc in omega arith)

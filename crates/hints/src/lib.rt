@@ -1,24 +1,18 @@
 #![tactic(auto)]
 
-ghost use Rattle.std.specs.Prelude.{ℕ, IfOk};
+ghost use Rattle.std.specs.Prelude.{◌≡◌, ℕ, IfOk};
 ghost use Rattle.words.specs.Words.{tag};
-ghost use Rattle.hints.specs.Follows.{Follows, Shown};
+ghost use Rattle.hints.specs.Follows.{Follows, other};
 
-use rules::{LoadError, LoadFault, load};
+use rules::{LoadFault, Refusal, load};
 use std::alloc::{AllocError, Global};
-use words::Kind;
+use words::{Kind, Word};
 
-// Whether an error is other than "out of turn at this place"; none if memory ran out.
-fn is_other(error: LoadError, place: usize) -> Option<bool>
-    ensures { Shown error place result }
+// Whether a refusal is other than "out of turn at this place".
+fn is_other(refusal: Refusal, place: usize) -> bool
+    ensures { result ≡ other refusal.fault refusal.place place }
 {
-    match error {
-        LoadError::Refused(refusal) => match refusal.fault {
-            LoadFault::OutOfTurn => Some(refusal.place != place),
-            _ => Some(true),
-        },
-        LoadError::Memory => None,
-    }
+    refusal.fault != LoadFault::OutOfTurn || refusal.place != place
 }
 
 // Whether a word of this kind may stand after the words, which begin a table: the loader is asked.
@@ -26,12 +20,12 @@ pub fn may_follow(heap: Global, before: &[u32], kind: Kind) -> Result<bool, Allo
     ensures { IfOk result (λ b. Follows before.now (tag kind) b) }
 {
     let mut words = Vec::from_slice(heap, before)?;
-    words.push(kind as u32 * 0x1000_0000)?;
-    match load(heap, words.as_slice()) {
+    words.push(u32::from(Word { kind, payload: 0 }))?;
+    match load(words.as_slice()) {
         Ok(_) => Ok(true),
-        Err(error) => match is_other(error, before.len()) {
-            Some(other) => Ok(other),
-            None => Err(AllocError),
-        },
+        Err(refusal) => Ok(is_other(refusal, before.len())),
     }
 }
+
+#[cfg(test)]
+mod tests;

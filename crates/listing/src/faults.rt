@@ -1,47 +1,7 @@
 use hints::may_follow;
 use rules::{LoadFault, Refusal};
 use std::alloc::{AllocError, Global};
-use words::{Kind, Word};
-
-const KINDS: [Kind; 16] = [
-    Kind::Blank,
-    Kind::Rule,
-    Kind::Kept,
-    Kind::Taken,
-    Kind::Guard,
-    Kind::Body,
-    Kind::Var,
-    Kind::Const,
-    Kind::Sum,
-    Kind::Diff,
-    Kind::Feed,
-    Kind::Take,
-    Kind::Look,
-    Kind::Commit,
-    Kind::Size,
-    Kind::End,
-];
-
-fn kind_name(kind: Kind) -> &'static str {
-    match kind {
-        Kind::Blank => "of kind 0",
-        Kind::Rule => "RULE",
-        Kind::Kept => "KEPT",
-        Kind::Taken => "TAKEN",
-        Kind::Guard => "GUARD",
-        Kind::Body => "BODY",
-        Kind::Var => "VAR",
-        Kind::Const => "CONST",
-        Kind::Sum => "SUM",
-        Kind::Diff => "DIFF",
-        Kind::Feed => "FEED",
-        Kind::Take => "TAKE",
-        Kind::Look => "LOOK",
-        Kind::Commit => "COMMIT",
-        Kind::Size => "SIZE",
-        Kind::End => "END",
-    }
-}
+use words::{KINDS, Kind, Word};
 
 // The kinds of word that may stand after the words.
 fn kinds_after(heap: Global, before: &[u32]) -> Result<String, AllocError> {
@@ -51,7 +11,7 @@ fn kinds_after(heap: Global, before: &[u32]) -> Result<String, AllocError> {
             if !text.is_empty() {
                 text.push_str(", ")?;
             }
-            text.push_str(kind_name(kind))?;
+            write!(text, "{kind}")?;
         }
     }
     Ok(text)
@@ -59,19 +19,19 @@ fn kinds_after(heap: Global, before: &[u32]) -> Result<String, AllocError> {
 
 // The bits below the kind that words of this kind may set.
 fn usable_bits(kind: Kind) -> u32 {
-    let mut bits = 0;
-    for i in 0..28u32 {
-        let bit = 1u32 << i;
-        if (Word { kind, payload: bit }).is_clean() {
-            bits |= bit;
-        }
-    }
-    bits
+    (0..28)
+        .map(|i| 1u32 << i)
+        .filter(|bit| (Word {
+            kind,
+            payload: *bit,
+        })
+        .is_clean())
+        .fold(0, |bits, bit| bits | bit)
 }
 
-// What a number or an amount may be, for the word that has one too large.
-fn limits(word: Word) -> &'static str {
-    match word.kind {
+// What a number or an amount may be, for the kind of word that has one too large.
+fn limits(kind: Kind) -> &'static str {
+    match kind {
         Kind::Var => "a variable is 0 to 7",
         Kind::Guard => "a guard's test is 0 to 3, and a rule has at most 4 guards",
         Kind::Kept | Kind::Taken => "a head has 0 to 3 operands, and a rule has at most 3 heads",
@@ -80,81 +40,61 @@ fn limits(word: Word) -> &'static str {
     }
 }
 
-// The label of the last rule that begins in the words.
+// The label of the last rule that begins in the words; 0 if none does.
 fn last_label(words: &[u32]) -> u16 {
-    let mut label = 0;
-    for bits in words {
-        let word = Word::read(*bits);
-        if word.is(Kind::Rule) {
-            label = word.label();
+    words
+        .iter()
+        .rev()
+        .map(|bits| Word::from(*bits))
+        .find(|word| word.is(Kind::Rule))
+        .map_or(0, |word| word.label())
+}
+
+// What is wrong with a word that stands after others, and what could have stood there.
+fn what_is_wrong(
+    heap: Global,
+    fault: LoadFault,
+    word: Word,
+    before: &[u32],
+) -> Result<String, AllocError> {
+    let kind = word.kind;
+    let label = word.label();
+    let last = last_label(before);
+    match fault {
+        LoadFault::OutOfTurn => {
+            let kinds = kinds_after(heap, before)?;
+            format!(in heap; "is {kind}, which is out of turn; here may stand {kinds}")
         }
+        LoadFault::StrayBit => format!(in heap;
+            "sets a bit that {kind} may not use; below its kind it may set 0x{:07X}",
+            usable_bits(kind)
+        ),
+        LoadFault::OutOfRange => format!(in heap;
+            "has a number or an amount out of range; {}",
+            limits(kind)
+        ),
+        LoadFault::Unbound => format!(in heap;
+            "is variable {}, which stands in no head of rule {last}; here may stand a variable of its heads",
+            word.count()
+        ),
+        LoadFault::NoTaken => format!(in heap;
+            "begins rule {label}, which takes no fact; at least one of its heads must be TAKEN"
+        ),
+        LoadFault::Label => format!(in heap;
+            "has label {label}; a label is 1 to 65535 and above the last, here {last}"
+        ),
     }
-    label
 }
 
 // A refused load in plain words: which word, what is wrong with it, and what could have stood there.
 pub(crate) fn explain(heap: Global, words: &[u32], refusal: Refusal) -> Result<String, AllocError> {
     let place = refusal.place;
-    if place >= words.len() {
+    let Some(&bits) = words.get(place) else {
         let kinds = kinds_after(heap, words)?;
         return format!(in heap;
             "word {place} is missing: the words end before END; here may stand {kinds}"
         );
-    }
-    let bits = words[place];
-    let before = &words[0..place];
-    let word = Word::read(bits);
-    let name = kind_name(word.kind);
-    match refusal.fault {
-        LoadFault::OutOfTurn => {
-            let kinds = kinds_after(heap, before)?;
-            format!(in heap;
-                "word {place} (0x{bits:08X}) is {name}, which is out of turn; here may stand {kinds}"
-            )
-        }
-        LoadFault::StrayBit => {
-            let usable = usable_bits(word.kind);
-            format!(in heap;
-                "word {place} (0x{bits:08X}) sets a bit that {name} may not use; below its kind it may set 0x{usable:07X}"
-            )
-        }
-        LoadFault::OutOfRange => {
-            let limits = limits(word);
-            format!(in heap;
-                "word {place} (0x{bits:08X}) has a number or an amount out of range; {limits}"
-            )
-        }
-        _ => explain_rule(heap, refusal, bits, last_label(before)),
-    }
-}
-
-// The same of a fault of a whole rule.
-fn explain_rule(
-    heap: Global,
-    refusal: Refusal,
-    bits: u32,
-    last: u16,
-) -> Result<String, AllocError> {
-    let place = refusal.place;
-    let word = Word::read(bits);
-    match refusal.fault {
-        LoadFault::Unbound => {
-            let variable = word.count();
-            format!(in heap;
-                "word {place} (0x{bits:08X}) is variable {variable}, which stands in no head of rule {last}; here may stand a variable of its heads"
-            )
-        }
-        LoadFault::NoTaken => {
-            let label = word.label();
-            format!(in heap;
-                "word {place} (0x{bits:08X}) begins rule {label}, which takes no fact; at least one of its heads must be TAKEN"
-            )
-        }
-        _ => {
-            let label = word.label();
-            format!(in heap;
-                "word {place} (0x{bits:08X}) has label {label}; a label is 1 to 65535 and above the last, here {last}"
-            )
-        }
-    }
+    };
+    let wrong = what_is_wrong(heap, refusal.fault, Word::from(bits), &words[..place])?;
+    format!(in heap; "word {place} (0x{bits:08X}) {wrong}")
 }

@@ -4,4 +4,4 @@ mod faults;
 pub mod report;
 mod text;
 
-pub use report::report_on;
+pub use report::{report_on, write_report};

@@ -1,36 +1,35 @@
-use Rattle.std.proofs.Common.{◌≡◌, ℕ, ◌≤◌, List, ◌++◌, length, drop, Err, sym, ap, ◌∙◌, subst, arith}
+use Rattle.std.proofs.Common.{◌≡◌, ℕ, List, ◌++◌, length, drop, Ok, Err, Result, sym, ap, ◌∙◌, subst, rules}
 use mathlib.Core.Logic.{∥∥₁_map, ∥∥₁_elim}
-use native.Mathlib.Bridge.{le_prop}
+use Rattle.std.proofs.Math.Nat.{ℕ_set}
+use Rattle.std.specs.Result.{IsOk}
 use Rattle.grammar.specs.Parts.{Parts}
+use Rattle.grammar.specs.Validity.{Valid}
 use Rattle.grammar.specs.Writing.{written}
-use Rattle.rules.specs.declared.refusal.LoadError.{LoadError}
-use Rattle.rules.specs.declared.refusal.LoadError.TheVariants.{Refused, Memory}
-use Rattle.rules.specs.Loading.{rules_of, Given}
-use Rattle.roundtrip.specs.Back.{back_error, NotRefused}
+use Rattle.rules.specs.declared.loader.Loaded.{Loaded}
+use Rattle.rules.specs.declared.refusal.Refusal.{Refusal}
+use Rattle.rules.specs.Loading.{rules_of, Given, Accepts}
 use Rattle.roundtrip.proofs.write_then_load.Goals as goal
 
-pub returns-in-Ok-load : goal.returns-in-Ok-load
-returns-in-Ok-load c =
-    let rs : List Parts = rules_of c.args.table.now in
-    let w = c.in-Ok.ensures in
-    let a = c.in-Ok-load.ensures.accepts rs (drop c.in-Ok.field-0 c.args.memory.now) in
-    let v = c.args.table.now.valid in
-    let p : c.in-Ok-load.loaded.used ≤ length (written rs) = ∥∥₁_elim v le_prop (λ x. omega (arith, (a x w.1).1)) in
-    let q : length (written rs) ≤ c.in-Ok-load.loaded.used = ∥∥₁_elim v le_prop (λ x. omega (arith, (a x w.1).1)) in
-    let e : c.in-Ok.field-0 ≡ c.in-Ok-load.loaded.used = omega (arith, w.0) in (
-      ∥∥₁_map v (λ x. (a x w.1).0),
-      omega arith,
-      w.1 ∙ ap (λ (n : ℕ). written rs ++ drop n c.args.memory.now) e,
-    )
+-- words that begin with the writing of a valid table, and what the loader answers
+module _ (rs : List Parts) (us ws : List ℕ) (r : Result Loaded Refusal) (v : ∥ Valid rs ∥₁) (w : ws ≡ written rs ++ us) (a : Accepts ws r) where
+  given : ∥ Given rs r ∥₁
+  given = ∥∥₁_map v (λ x. a rs us x w)
 
--- a table that was written is not refused
-taken : (rs : List Parts) (e : LoadError) → ∥ Given rs (Err e) ∥₁ → NotRefused (back_error e)
-taken rs (Refused f) g = ∥∥₁_elim g (λ x y. absurd x) (λ x. x)
-taken rs Memory g = tt
+  loaded : IsOk r
+  loaded = elim r as (λ q. ∥ Given rs q ∥₁ → IsOk q) [ Ok x ↦ λ g. search rules | Err e ↦ λ g. absurd (∥∥₁_elim g (λ x y. absurd x) (λ x. x)) ] given
 
-pub returns-in-Err-load : goal.returns-in-Err-load
-returns-in-Err-load c =
+  back : (x : Loaded) → r ≡ Ok x → ∥ rules_of x.table ≡ rs ∥₁ × (x.used ≡ length (written rs))
+  back x e =
+      let g : ∥ Given rs (Ok x) ∥₁ = subst (λ (q : Result Loaded Refusal). ∥ Given rs q ∥₁) e given in
+      (∥∥₁_map g (λ y. y.0), ∥∥₁_elim g (ℕ_set x.used (length (written rs))) (λ y. y.1))
+
+pub unwrap-requires : goal.unwrap-requires
+unwrap-requires c =
+    loaded (rules_of c.args.table.now) _ _ c.load.result c.args.table.now.valid c.in_ok-write_table.ensures.1 c.load.ensures.accepts
+
+pub returns : goal.returns
+returns c =
     let rs : List Parts = rules_of c.args.table.now in
-    let w = c.in-Ok.ensures in
-    let a = c.in-Err-load.ensures.accepts rs (drop c.in-Ok.field-0 c.args.memory.now) in
-    subst NotRefused (sym c.back_error.ensures) (taken rs c.in-Err-load.error (∥∥₁_map c.args.table.now.valid (λ x. a x w.1)))
+    let w = c.in_ok-write_table.ensures in
+    let b = back rs _ _ c.load.result c.args.table.now.valid w.1 c.load.ensures.accepts c.unwrap.result c.unwrap.ensures in
+    (b.0, b.1, w.1 ∙ ap (λ (n : ℕ). written rs ++ drop n c.args.memory.now) (w.0 ∙ sym b.1))
