@@ -5,6 +5,7 @@ use rules::{Loaded, Refusal};
 use std::fmt;
 
 // A load's answer as its number and two numbers more, shown as the line that says so.
+// Numbers and no enum: these three are what the line prints, and are made where it is printed.
 #[derive(Clone, Copy)]
 pub struct LoadAnswer {
     pub code: u32,

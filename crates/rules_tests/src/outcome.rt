@@ -2,7 +2,7 @@ pub(crate) use rules::LoadFault::{Label, NoTaken, OutOfRange, OutOfTurn, StrayBi
 use rules::{LoadFault, Refusal, load};
 use std::process::Abort;
 
-// Kinds of words, with the payload 0.
+// Kinds of words, with the payload 0. Raw numbers, as they come from outside: no code that is tested makes them.
 pub(crate) const RULE: u32 = 0x1000_0000;
 
 pub(crate) const KEPT: u32 = 0x2000_0000;

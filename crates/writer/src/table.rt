@@ -6,6 +6,7 @@ use crate::tally::Tally;
 use std::marker::PhantomData;
 
 // A table with no open rule: words so far, closed rules, the last label.
+// The words so far are a number and no vector: the memory is lent at each call.
 pub struct TableWriter {
     used: usize,
     rules: usize,
