@@ -5,3 +5,6 @@ mod part;
 pub mod rule;
 
 pub use rule::{heads_size, rule_size};
+
+#[cfg(test)]
+mod tests;
