@@ -1,5 +1,4 @@
 use crate::{heads_size, rule_size};
-use arrayvec::ArrayVec;
 use grammar::{Args, Atom, Guard, Operand, Rule, Term, Test};
 use std::test::Fail;
 
