@@ -1,5 +1,4 @@
 mod Firsts
-mod Sizes
 mod Steps
 mod Tails
 mod Walk

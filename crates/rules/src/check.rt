@@ -1,22 +1,13 @@
 ghost use Rattle.std.specs.Prelude.{◌≡◌, ◌+◌, ◌<◌, ◌≤◌, ℕ, List, ◌++◌, map, length, sum_by, position, IfNone, IfSome};
 ghost use Rattle.grammar.specs.Parts.{parts};
-ghost use Rattle.grammar.specs.Sizes.{heads_size, rule_size};
 ghost use Rattle.grammar.specs.Validity.{is_var, head_has, binds, free, Sound, Valid};
 ghost use Rattle.grammar.specs.Writing.{standard, FormedRule, Formed, rule_words, written};
 ghost use Rattle.rules.specs.Faults.{RuleFault, FirstFault};
 
-use crate::part::Part;
 use crate::refusal::LoadFault;
 use grammar::{Head, Operand, Rule};
+use sizes::{heads_size, rule_size};
 use words::{Kind, Word};
-
-// How many words a few parts are written as.
-fn total_size<P: Part>(items: &[P]) -> usize
-    requires { length items.now ≤ 4 }
-    ensures { result ≡ sum_by P.Part.words items.now }
-{
-    items.iter().map(|item| item.size()).sum()
-}
 
 fn is_variable(operand: Operand, variable: u32) -> bool
     ensures { result ≡ is_var variable operand }
@@ -58,23 +49,6 @@ fn first_free(rule: &Rule, ws: &[u32]) -> Option<usize>
     ensures { result ≡ position (free (parts rule.now)) ws.now }
 {
     ws.iter().position(|word| is_free(rule, *word))
-}
-
-// How many words a well-formed rule's RULE word and heads are written as.
-fn heads_size(rule: &Rule) -> usize
-    requires { FormedRule standard (parts rule.now) }
-    ensures value { result ≡ heads_size (parts rule.now) }
-    ensures bound { result ≤ 100 }
-{
-    1 + total_size(&rule.kept) + total_size(&rule.taken)
-}
-
-// How many words a well-formed rule is written as.
-fn rule_size(rule: &Rule) -> usize
-    requires { FormedRule standard (parts rule.now) }
-    ensures { result ≡ rule_size (parts rule.now) }
-{
-    heads_size(rule) + total_size(&rule.guards) + total_size(&rule.body)
 }
 
 // The fault of a well-formed rule and its offset in the rule's words; the label before it was `last`.

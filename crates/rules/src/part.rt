@@ -1,10 +1,9 @@
 ghost use Rattle.std.specs.Prelude.{◌≡◌, ℕ, ◌+◌, ◌≤◌, List};
 ghost use Rattle.grammar.specs.Reading.{Parsed, test_at, read_guard};
-ghost use Rattle.grammar.specs.Sizes.{guard_size};
 ghost use Rattle.rules.specs.Progress.{Gives, read_atom};
 
 use crate::fault::Fault;
-use crate::read::{Argument, read_args, read_term, term_size};
+use crate::read::{Argument, read_args, read_term};
 use grammar::{Atom, Guard, Reason, Test};
 use words::Word;
 
@@ -16,25 +15,12 @@ const LAST_TEST: u8 = 3;
 pub(crate) trait Part: Copy {
     ghost reads: { ℕ → List ℕ → Parsed Self };
 
-    ghost words: { Self → ℕ };
-
-    // How many words it is written as.
-    fn size(self) -> usize
-        ensures value { result ≡ words self }
-        ensures bound { result ≤ 10 };
-
     fn read_rest(first: Word, ws: &[u32]) -> Result<(Self, &[u32]), Fault>
         ensures { Gives (reads first.payload ws.now) result };
 }
 
 impl<A: Argument> Part for Atom<A> {
     ghost reads = { read_atom A.Argument.reads };
-
-    ghost words = { λ atom. 1 + A.Argument.words atom.args };
-
-    fn size(self) -> usize {
-        1 + A::total(self.args)
-    }
 
     fn read_rest(first: Word, ws: &[u32]) -> Result<(Atom<A>, &[u32]), Fault> {
         let count = first.count();
@@ -59,13 +45,6 @@ fn test_at(number: u8) -> Test
 
 impl Part for Guard {
     ghost reads = { read_guard };
-
-    ghost words = { guard_size };
-
-    #[tactic(auto, using(crate::proofs::Sizes::term_few))]
-    fn size(self) -> usize {
-        1 + term_size(self.left) + term_size(self.right)
-    }
 
     fn read_rest(first: Word, ws: &[u32]) -> Result<(Guard, &[u32]), Fault> {
         let number = first.count();

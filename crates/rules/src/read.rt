@@ -1,8 +1,5 @@
-ghost use Rattle.std.specs.Prelude.{◌≡◌, ℕ, ◌≤◌, List, [], ◌∷◌, sum_by, MatchOption};
-ghost use Rattle.args.specs.Listed.{listed, amount};
-ghost use Rattle.args.specs.declared.Args.{Args};
+ghost use Rattle.std.specs.Prelude.{◌≡◌, ℕ, ◌≤◌, List, [], ◌∷◌, MatchOption};
 ghost use Rattle.grammar.specs.Reading.{Parsed, read_operand, read_pair, read_term, read_args};
-ghost use Rattle.grammar.specs.Sizes.{term_size};
 ghost use Rattle.rules.specs.Progress.{Gives};
 
 use crate::fault::Fault;
@@ -75,62 +72,27 @@ pub(crate) fn read_term(ws: &[u32]) -> Result<(Term, &[u32]), Fault>
     }
 }
 
-// How many words a term is written as.
-pub(crate) fn term_size(term: Term) -> usize
-    ensures { result ≡ term_size term }
-{
-    match term {
-        Term::One(_) => 1,
-        Term::Sum(_, _) | Term::Diff(_, _) => 3,
-    }
-}
-
 // What a head or a body fact has as arguments.
 pub(crate) trait Argument: Copy {
     ghost reads: { List ℕ → Parsed Self };
 
-    ghost words: { Args Self → ℕ };
-
     fn read(ws: &[u32]) -> Result<(Self, &[u32]), Fault>
         ensures { Gives (reads ws.now) result };
-
-    // How many words the arguments are written as.
-    fn total(args: Args<Self>) -> usize
-        ensures value { result ≡ words args }
-        ensures bound { result ≤ 9 };
 }
 
 impl Argument for Operand {
     ghost reads = { read_operand };
 
-    ghost words = { amount };
-
     fn read(ws: &[u32]) -> Result<(Operand, &[u32]), Fault> {
         read_operand(ws)
-    }
-
-    fn total(args: Args<Operand>) -> usize
-        ensures value { result ≡ amount args }
-        ensures bound { result ≤ 9 }
-    {
-        args.len()
     }
 }
 
 impl Argument for Term {
     ghost reads = { read_term };
 
-    ghost words = { λ args. sum_by term_size (listed args) };
-
     fn read(ws: &[u32]) -> Result<(Term, &[u32]), Fault> {
         read_term(ws)
-    }
-
-    fn total(args: Args<Term>) -> usize
-        ensures value { result ≡ sum_by term_size (listed args) }
-        ensures bound { result ≤ 9 }
-    {
-        args.into_iter().map(|term| term_size(term)).sum()
     }
 }
 

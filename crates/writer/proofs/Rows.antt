@@ -136,14 +136,6 @@ module _ {r : Rule} {w : ℕ} {ks ts : List Head} {gs : List Guard} {bs : List B
               subst (λ (v : List ℕ). Puts at v m e m4) same_rule
               (rule_puts at w (kept_words ks) (taken_words ts) (guards_words gs) (bodies_words bs) m whole_room n m' p i m'' q j m3 s e m4 u)
 
-pub rule_size_lem : (w : ℕ) (ks ts gs bs : List ℕ) (a b c d : ℕ) → a ≡ length ks → b ≡ length ts → c ≡ length gs → d ≡ length bs →
-    1 + a + b + c + d ≡ length (w ∷ ((ks ++ ts) ++ (gs ++ bs)))
-rule_size_lem w ks ts gs bs a b c d e f g h =
-    let i = length-append (ks ++ ts) (gs ++ bs) in
-    let j = length-append ks ts in
-    let k = length-append gs bs in
-    omega arith
-
 pub joined_map : {X Y : Type 0} (f : Y → List ℕ) (k : X → Y) (xs : List X) → flat_map f (map k xs) ≡ flat_map (λ x. f (k x)) xs
 joined_map f k [] = refl
 joined_map f k (x ∷ xs) = ap (λ (v : List ℕ). f (k x) ++ v) (joined_map f k xs)

@@ -5,4 +5,3 @@ pub mod Tallies
 pub mod Stages
 pub mod Tables
 pub mod Calls
-pub mod Lengths

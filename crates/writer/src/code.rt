@@ -1,12 +1,8 @@
-ghost use Rattle.std.specs.Prelude.{◌≡◌, ℕ, ◌+◌, ◌-◌, ◌*◌, ◌/◌, ◌%◌, ◌^◌, ◌<◌, ◌≤◌, List, [], ◌∷◌, ◌++◌, MatchOption, sum_by, length, refl};
+ghost use Rattle.std.specs.Prelude.{◌≡◌, ℕ, ◌+◌, ◌-◌, ◌*◌, ◌/◌, ◌%◌, ◌^◌, ◌<◌, ◌≤◌, List, [], ◌∷◌, ◌++◌, MatchOption};
 ghost use Rattle.std.specs.List.{flat_map, AllByRecursion};
 ghost use Rattle.words.specs.Words.{word, tag};
 ghost use Rattle.args.specs.Listed.{listed, amount};
 ghost use Rattle.grammar.specs.Writing.{operand_words, term_words, head_words, guard_words, body_words, test_number, FormedOperand, FormedTerm, FormedHead, FormedGuard, FormedBody};
-ghost use Rattle.grammar.specs.Sizes.{term_size, guard_size};
-ghost use Rattle.grammar.specs.declared.part.Operand.TheVariants.{Var, Const};
-ghost use Rattle.grammar.proofs.Sizes.{term_length, guard_length};
-ghost use Rattle.writer.specs.Lengths.{atom_length};
 ghost use Rattle.arrayvec.specs.ArrayVec.{array_vec_len};
 ghost use Rattle.writer.specs.Tallies.{Formed, part_words};
 
@@ -44,32 +40,15 @@ pub trait Argument: Copy {
 
     ghost formed: { Self → Type 0 };
 
-    ghost size: { Self → ℕ };
-
-    // How many words it has.
-    fn size(self) -> usize
-        ensures value { result ≡ size self }
-        ensures bound { result ≤ 3 };
-
     // Its words; none if a number is out of range.
     fn words(self) -> Option<Args<u32>>
         ensures { MatchOption result (formed self → ⊥) (λ ws. formed self × (listed ws ≡ words self)) };
-
-    ghost sized: { (x : Self) → length (words x) ≡ size x };
 }
 
 impl Argument for Operand {
     ghost words = { operand_words };
 
     ghost formed = { FormedOperand };
-
-    ghost size = { λ _. 1 };
-
-    ghost sized = { elim [ Var v ↦ refl | Const n ↦ refl ] };
-
-    fn size(self) -> usize {
-        1
-    }
 
     fn words(self) -> Option<Args<u32>> {
         Some(Args::One(operand_word(self)?))
@@ -80,17 +59,6 @@ impl Argument for Term {
     ghost words = { term_words };
 
     ghost formed = { FormedTerm };
-
-    ghost size = { term_size };
-
-    ghost sized = { term_length };
-
-    fn size(self) -> usize {
-        match self {
-            Term::One(_) => 1,
-            Term::Sum(_, _) | Term::Diff(_, _) => 3,
-        }
-    }
 
     fn words(self) -> Option<Args<u32>> {
         match self {
@@ -126,36 +94,15 @@ pub trait Encode: Copy {
 
     ghost formed: { Self → Type 0 };
 
-    ghost size: { Self → ℕ };
-
-    // How many words it has.
-    fn size(self) -> usize
-        ensures value { result ≡ size self }
-        ensures bound { result ≤ 10 };
-
     // Its words, the first of this kind; none if a number is out of range.
     fn code(self, kind: Kind) -> Option<Code>
         ensures { MatchOption result (formed self → ⊥) (λ c. formed self × (c.items ≡ words (tag kind) self)) };
-
-    ghost sized: { (k : ℕ) (x : Self) → length (words k x) ≡ size x };
 }
 
 impl<A: Argument> Encode for Atom<A> {
     ghost words = { λ k atom. word k (atom.name * 2 ^ 16 + amount atom.args) ∷ flat_map A.words (listed atom.args) };
 
     ghost formed = { λ atom. (atom.name < 2 ^ 8) × AllByRecursion A.formed (listed atom.args) };
-
-    ghost size = { λ atom. 1 + sum_by A.size (listed atom.args) };
-
-    ghost sized = { λ k atom. atom_length k atom.name atom.args A.words A.size A.sized };
-
-    fn size(self) -> usize {
-        let mut size = 1;
-        for argument in self.args {
-            size += argument.size();
-        }
-        size
-    }
 
     fn code(self, kind: Kind) -> Option<Code> {
         let mut code = Code::new();
@@ -171,14 +118,6 @@ impl Encode for Guard {
     ghost words = { λ k guard. word k (test_number guard.test) ∷ (term_words guard.left ++ term_words guard.right) };
 
     ghost formed = { FormedGuard };
-
-    ghost size = { guard_size };
-
-    ghost sized = { λ _. guard_length };
-
-    fn size(self) -> usize {
-        1 + self.left.size() + self.right.size()
-    }
 
     fn code(self, kind: Kind) -> Option<Code> {
         let left = self.left.words()?;

@@ -1,4 +1,4 @@
-ghost use Rattle.std.specs.Prelude.{◌≡◌, ℕ, ◌+◌, ◌*◌, ◌^◌, ◌<◌, ◌≤◌, List, ◌++◌, length, drop, sum_by, MatchResult};
+ghost use Rattle.std.specs.Prelude.{◌≡◌, ℕ, ◌+◌, ◌*◌, ◌^◌, ◌<◌, ◌≤◌, List, ◌++◌, length, drop, MatchResult};
 ghost use Rattle.std.specs.List.{flat_map, AllByRecursion};
 ghost use Rattle.words.specs.Words.{tag};
 ghost use Rattle.grammar.specs.Writing.{written};
@@ -12,41 +12,15 @@ use crate::code::{Encode, word_of};
 use crate::refusal::Refusal;
 use grammar::Rule;
 use rules::Table;
+use sizes::rule_size;
 use words::Kind;
-
-// How many words a few parts are written as.
-fn parts_size<P: Encode>(parts: &[P]) -> usize
-    requires { length parts.now ≤ 4 }
-    ensures value { (k : ℕ) → result ≡ length (flat_map (P.words k) parts.now) }
-    ensures bound { result ≤ 40 }
-{
-    let mut size = 0;
-    for part in parts {
-        size += part.size();
-    }
-    size
-}
-
-fn rule_size(rule: &Rule) -> usize
-    ensures value { result ≡ length (words_of rule.now) }
-    ensures bound { result ≤ 200 }
-{
-    1 + parts_size(&rule.kept)
-        + parts_size(&rule.taken)
-        + parts_size(&rule.guards)
-        + parts_size(&rule.body)
-}
 
 // How many words the rules are written as.
 fn rules_size(rules: &[Rule]) -> usize
     requires { length rules.now ≤ 32 }
     ensures { result ≡ length (flat_map words_of rules.now) }
 {
-    let mut size = 0;
-    for rule in rules {
-        size += rule_size(rule);
-    }
-    size
+    rules.iter().map(|rule| rule_size(rule)).sum()
 }
 
 // Puts the words of the parts from a place on.
