@@ -1,10 +1,7 @@
 -- What readers give, and what those that fill a list have read so far.
-use Rattle.std.specs.Prelude.{◌≡◌, ℕ, suc, cond, nat_lt, List, ◌++◌, length, Ok, Err, MatchResult, Result}
+use Rattle.std.specs.Prelude.{◌≡◌, ℕ, List, ◌++◌, Ok, Err, MatchResult, Result}
 use Rattle.std.proofs.Common.{Bor}
-use Rattle.words.specs.Words.{name_in, count_in}
-use Rattle.grammar.specs.declared.reason.Reason.TheVariants.{OutOfRange}
-use Rattle.grammar.specs.declared.part.Atom.{Atom}
-use Rattle.grammar.specs.Reading.{Parsed, ok, no, then, read_args}
+use Rattle.grammar.specs.Reading.{Parsed, ok, no}
 use Rattle.rules.specs.declared.fault.Fault.{Fault}
 
 -- a reader's result: a value, seen as what was read, and the words after it; or the fault
@@ -14,12 +11,6 @@ GivesAs view p (Err fault) = p ≡ no fault.reason fault.left
 
 abbrev pub Gives : {A : Type 0} → Parsed A → Result (A × Bor (List ℕ)) Fault → Type 0
 Gives p r = GivesAs (λ x. x) p r
-
--- the rest of a head or a body fact, by how its arguments are read
-abbrev pub read_atom : {A : Type 0} → (List ℕ → Parsed A) → ℕ → List ℕ → Parsed (Atom A)
-read_atom read n ws =
-    cond (nat_lt 3 (count_in n)) (no OutOfRange (suc (length ws)))
-    (then (read_args read (count_in n) ws) (λ xs us. ok (record { name = name_in n; args = xs }) us))
 
 -- what was read, after values read before
 abbrev pub front : {A : Type 0} → List A → Parsed (List A) → Parsed (List A)

@@ -1,6 +1,6 @@
 ghost use Rattle.std.specs.Prelude.{◌≡◌, ℕ, ◌+◌, ◌≤◌, List};
-ghost use Rattle.grammar.specs.Reading.{Parsed, test_at, read_guard};
-ghost use Rattle.rules.specs.Progress.{Gives, read_atom};
+ghost use Rattle.grammar.specs.Reading.{Parsed, test_at, read_guard, read_atom};
+ghost use Rattle.rules.specs.Progress.{Gives};
 
 use crate::fault::Fault;
 use crate::read::{Argument, read_args, read_term};

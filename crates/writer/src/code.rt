@@ -2,7 +2,7 @@ ghost use Rattle.std.specs.Prelude.{◌≡◌, ℕ, ◌+◌, ◌-◌, ◌*◌, �
 ghost use Rattle.std.specs.List.{flat_map, AllByRecursion};
 ghost use Rattle.words.specs.Words.{word, tag};
 ghost use Rattle.args.specs.Listed.{listed, amount};
-ghost use Rattle.grammar.specs.Writing.{operand_words, term_words, head_words, guard_words, body_words, test_number, FormedOperand, FormedTerm, FormedHead, FormedGuard, FormedBody};
+ghost use Rattle.grammar.specs.Writing.{operand_words, term_words, atom_words, head_words, guard_words, body_words, test_number, FormedOperand, FormedTerm, FormedAtom, FormedHead, FormedGuard, FormedBody};
 ghost use Rattle.arrayvec.specs.ArrayVec.{array_vec_len};
 ghost use Rattle.writer.specs.Tallies.{Formed, part_words};
 
@@ -100,9 +100,9 @@ pub trait Encode: Copy {
 }
 
 impl<A: Argument> Encode for Atom<A> {
-    ghost words = { λ k atom. word k (atom.name * 2 ^ 16 + amount atom.args) ∷ flat_map A.words (listed atom.args) };
+    ghost words = { atom_words A.words };
 
-    ghost formed = { λ atom. (atom.name < 2 ^ 8) × AllByRecursion A.formed (listed atom.args) };
+    ghost formed = { FormedAtom A.formed };
 
     fn code(self, kind: Kind) -> Option<Code> {
         let mut code = Code::new();
