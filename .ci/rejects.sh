@@ -6,7 +6,15 @@ set -u
 root=$(cd "$(dirname "$0")/.." && pwd -P)
 work=$(mktemp -d) || exit 2
 trap 'rm -rf "$work"' EXIT
-for name in args facts words grammar rules writer; do
+# The writer and all crates below it.
+names=writer
+while :; do
+    below=$(for name in $names; do sed -n "s/^$name://p" "$root/crates.txt"; done)
+    more=$(for name in $names $below; do [ -d "$root/crates/$name" ] && echo "$name"; done | sort -u)
+    [ "$more" = "$names" ] && break
+    names=$more
+done
+for name in $names; do
     mkdir -p "$work/crates/$name"
     for part in src specs proofs; do
         [ -d "$root/crates/$name/$part" ] && cp -R "$root/crates/$name/$part" "$work/crates/$name/"
