@@ -5,7 +5,7 @@ ghost use Rattle.std.specs.Prelude.{◌≡◌, ◌≤◌};
 ghost use Rattle.std.specs.Iterator.{YieldsFirst, item_count};
 ghost use Rattle.args.specs.Listed.{listed, amount};
 
-// An amount above three cannot be said.
+// An amount above three cannot be said. No vector of fixed capacity: that is not `Copy`, and parts are copied as they are.
 #[derive(Clone, Copy, PartialEq, Default, Debug)]
 pub enum Args<T> {
     #[default]

@@ -10,7 +10,7 @@ use crate::kind::Kind;
 pub const MOST_ARGS: u8 = 3;
 
 // A fact: a name, a count and three argument values; those past the count are spare.
-// Three values whatever the count: a fact has a fixed size, and takes no heap.
+// Three values whatever the count, the spare ones too: a fact has a fixed size, takes no heap, and is copied as it is.
 #[derive(Clone, Copy)]
 pub struct Fact<V> {
     pub name: u8,

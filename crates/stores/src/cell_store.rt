@@ -71,7 +71,7 @@ impl<'a, C: Cell, P: Pick> Store<C::Value> for CellStore<'a, C, P> {
     }
 
     fn room(&self) -> usize {
-        // The room of a store is counted by a loop over its cells.
+        // A form of the project, in place of filter and count: a loop over the cells.
         let mut count = 0;
         for cell in self.used() {
             if cell.number() == 0 {

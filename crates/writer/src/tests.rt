@@ -364,15 +364,15 @@ fn next_rule(table: TableWriter, memory: &mut [u32], label: u16) -> Result<Table
 }
 
 // Rules labelled from here on, until one is refused.
-fn rules_from(table: TableWriter, memory: &mut [u32], label: u16) -> (u16, Option<Refusal>) {
-    if label >= 40 {
-        let _ = table.give_up();
-        return (label, None);
+fn rules_from(mut table: TableWriter, memory: &mut [u32], first: u16) -> (u16, Option<Refusal>) {
+    for label in first..40 {
+        table = match next_rule(table, memory, label) {
+            Ok(table) => table,
+            Err(refusal) => return (label, Some(refusal)),
+        };
     }
-    match next_rule(table, memory, label) {
-        Ok(table) => rules_from(table, memory, label + 1),
-        Err(refusal) => (label, Some(refusal)),
-    }
+    let _ = table.give_up();
+    (40, None)
 }
 
 #[test]
@@ -395,26 +395,26 @@ fn labels_and_rules(rt: HostRuntime) -> Result<(), Fail> {
 }
 
 // Body facts, until one is refused.
-fn facts_from(rule: Filling, memory: &mut [u32], count: u8) -> (u8, Option<Refusal>) {
-    if count >= 9 {
-        let (table, _) = rule.close();
-        let _ = table.give_up();
-        return (count, None);
+fn facts_from(mut rule: Filling, memory: &mut [u32], had: u8) -> (u8, Option<Refusal>) {
+    for count in had..9 {
+        rule = match rule.fill(memory, late(A)) {
+            Ok((rule, _)) => rule,
+            Err(
+                Refused {
+                    state: rule,
+                    why,
+                    used: _,
+                },
+            ) => {
+                let (table, _) = rule.close();
+                let _ = table.give_up();
+                return (count, Some(why));
+            }
+        };
     }
-    match rule.fill(memory, late(A)) {
-        Ok((rule, _)) => facts_from(rule, memory, count + 1),
-        Err(
-            Refused {
-                state: rule,
-                why,
-                used: _,
-            },
-        ) => {
-            let (table, _) = rule.close();
-            let _ = table.give_up();
-            (count, Some(why))
-        }
-    }
+    let (table, _) = rule.close();
+    let _ = table.give_up();
+    (9, None)
 }
 
 #[test]
