@@ -3,6 +3,7 @@ use Rattle.std.specs.Prelude.{ℕ, List}
 use Rattle.grammar.specs.Atoms.{Head, BodyFact}
 use Rattle.grammar.specs.declared.part.Guard.{Guard}
 use Rattle.grammar.specs.declared.rule.Rule.{Rule}
+use Rattle.grammar.specs.declared.rule.RuleParts.{RuleParts}
 
 -- a rule: its label, kept heads, taken heads, guards and body facts, each in their order
 pub record Parts : Type 0 where
@@ -20,4 +21,15 @@ parts r =
       taken = r.taken.items;
       guards = r.guards.items;
       body = r.body.items;
+    }
+
+-- the same of parts that stand anywhere, in any number
+abbrev pub seen : RuleParts → Parts
+seen r =
+    record {
+      label = r.label;
+      kept = r.kept.now;
+      taken = r.taken.now;
+      guards = r.guards.now;
+      body = r.body.now;
     }

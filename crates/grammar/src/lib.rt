@@ -7,4 +7,4 @@ pub mod rule;
 pub use args::Args;
 pub use part::{Atom, BodyFact, Guard, Head, Operand, Term, Test};
 pub use reason::Reason;
-pub use rule::Rule;
+pub use rule::{Rule, RuleParts};

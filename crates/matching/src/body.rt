@@ -12,6 +12,7 @@ use facts::ReadFact;
 use grammar::{Args, BodyFact, Term};
 
 // Whether every value of a body fact lies between the ends.
+// Values and ends stay two parameters, here and below: what variables mean and what a kind allows change apart, and other functions take one.
 fn fact_within(fact: &BodyFact, values: &Values, ends: Ends) -> bool
     ensures { result ≡ fact_within ends.low ends.high values.now.numbers fact.now }
 {

@@ -1,7 +1,7 @@
 use crate::{Ends, Verdict, body_count, body_fact, head_fits_at, judge};
 use arrayvec::ArrayVec;
 use facts::ReadFact;
-use grammar::{Args, Atom, Guard, Head, Operand, Rule, Term, Test};
+use grammar::{Args, Atom, Guard, Head, Operand, Rule, RuleParts, Term, Test};
 use std::fmt::Debug;
 use std::test::Fail;
 
@@ -92,10 +92,13 @@ fn chosen_facts(rt: HostRuntime) -> Result<(), Fail> {
         (fill(3, 84), counted, Verdict::NoMatch),
     ];
     for (first, second, verdict) in rows {
-        assert_eq!(rt; judge(&rule, &[first, second], ENDS), verdict);
+        assert_eq!(rt; judge(rule.parts(), &[first, second], ENDS), verdict);
     }
-    assert_eq!(rt; judge(&rule, &[fill(3, 84)], ENDS), Verdict::NoMatch);
-    assert_eq!(rt; judge(&rule, &[fill(3, 84); 3], ENDS), Verdict::NoMatch);
+    assert_eq!(rt; judge(rule.parts(), &[fill(3, 84)], ENDS), Verdict::NoMatch);
+    assert_eq!(rt;
+        judge(rule.parts(), &[fill(3, 84); 3], ENDS),
+        Verdict::NoMatch
+    );
     Ok(())
 }
 
@@ -110,7 +113,7 @@ fn positions(rt: HostRuntime) -> Result<(), Fail> {
         (1, fact(1, 4, (1, 2, 3)), false),
     ];
     for (position, fact, fits) in rows {
-        assert_eq!(rt; head_fits_at(&rule, position, &fact), fits);
+        assert_eq!(rt; head_fits_at(rule.parts(), position, &fact), fits);
     }
     Ok(())
 }
@@ -137,7 +140,7 @@ fn guards(rt: HostRuntime) -> Result<(), Fail> {
             right: Term::Diff(B, Operand::Const(1)),
         };
         let rule = pair_rule(guard, Term::One(A))?;
-        assert_eq!(rt; judge(&rule, &[fact], ENDS), verdict);
+        assert_eq!(rt; judge(rule.parts(), &[fact], ENDS), verdict);
     }
     Ok(())
 }
@@ -162,11 +165,11 @@ fn body_values(rt: HostRuntime) -> Result<(), Fail> {
     for (term, number, verdict, written) in rows {
         let rule = pair_rule(always, term)?;
         let chosen = [pair(number, 0)];
-        assert_eq!(rt; judge(&rule, &chosen, ENDS), verdict);
-        let fact = body_fact(&rule, &chosen, ENDS, 0).ok_or("no fact")?;
+        assert_eq!(rt; judge(rule.parts(), &chosen, ENDS), verdict);
+        let fact = body_fact(rule.parts(), &chosen, ENDS, 0).ok_or("no fact")?;
         assert_eq!(rt; (fact.name, fact.count, fact.args.0), (9, 1, written));
-        assert_eq!(rt; body_count(&rule), 1);
-        assert!(rt; body_fact(&rule, &chosen, ENDS, 1).is_none());
+        assert_eq!(rt; body_count(rule.parts()), 1);
+        assert!(rt; body_fact(rule.parts(), &chosen, ENDS, 1).is_none());
     }
     Ok(())
 }
@@ -210,7 +213,29 @@ fn operands(rt: HostRuntime) -> Result<(), Fail> {
             guards: ArrayVec::new(),
             body: ArrayVec::new(),
         };
-        assert_eq!(rt; judge(&rule, &[fact], ENDS), verdict);
+        assert_eq!(rt; judge(rule.parts(), &[fact], ENDS), verdict);
     }
     Ok(())
+}
+
+#[test]
+fn any_number_of_parts(rt: HostRuntime) {
+    let body = [Atom {
+        name: 9,
+        args: Args::One(Term::One(B)),
+    }; 5];
+    let rule = RuleParts {
+        label: 10,
+        kept: &[head(2, A, B); 4],
+        taken: &[head(2, A, B); 5],
+        guards: &[],
+        body: &body,
+    };
+    assert_eq!(rt; judge(rule, &[pair(1, 2); 9], ENDS), Verdict::Applies);
+    assert_eq!(rt; judge(rule, &[pair(1, 2); 8], ENDS), Verdict::NoMatch);
+    assert!(rt; head_fits_at(rule, 8, &pair(3, 4)));
+    assert!(rt; !head_fits_at(rule, 9, &pair(3, 4)));
+    assert_eq!(rt; body_count(rule), 5);
+    let last = body_fact(rule, &[pair(1, 2); 9], ENDS, 4);
+    assert!(rt; last.is_some_and(|fact| fact.args.0 == 2));
 }

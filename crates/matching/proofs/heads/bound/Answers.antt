@@ -1,7 +1,7 @@
 use Rattle.std.proofs.Common.{Bool, List, map, cond, ℤ, sym, ap, ◌∙◌, rules}
 use Rattle.std.proofs.lemmas.Iterator.Consumers.{fold_from_yields_List}
 use Rattle.facts.specs.Meanings.{read_meaning}
-use Rattle.grammar.specs.Parts.{parts}
+use Rattle.grammar.specs.Parts.{seen}
 use Rattle.matching.specs.declared.values.Values.{Values}
 use Rattle.matching.specs.Heads.{met, bind_all, unbound}
 use Rattle.matching.specs.Applying.{heads}
@@ -11,7 +11,7 @@ use Rattle.matching.proofs.heads.bound.Goals as goal
 
 pub returns-clause-numbers : goal.returns-clause-numbers
 returns-clause-numbers c =
-    let hs = heads (parts c.args.rule.now) in
+    let hs = heads (seen c.args.rule) in
     let fs = c.args.facts.now in
     let zeros = c.unbound.result in
     let folded = fold_from_yields_List _ with_pair zeros c.fold-values.result c.fold-values.ensures.ran (pairs_give {s = c.zip.result} c.heads.result hs fs c.zip.ensures.first c.heads.ensures c.zip.ensures.second.0) (λ a x b q k. search rules) in

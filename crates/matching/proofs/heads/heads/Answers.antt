@@ -4,4 +4,4 @@ use Rattle.matching.proofs.heads.heads.Goals as goal
 
 pub returns : goal.returns
 returns c =
-    (YieldsList-from_chain (YieldsList-from_slice c.args.rule.now.kept.items (cc)) (YieldsList-from_slice c.args.rule.now.taken.items (cc)) c.chain.ensures.first_done c.chain.ensures.second_done).runs
+    (YieldsList-from_chain (YieldsList-from_slice c.args.rule.kept.now (cc)) (YieldsList-from_slice c.args.rule.taken.now (cc)) c.chain.ensures.first_done c.chain.ensures.second_done).runs

@@ -2,7 +2,7 @@ use Rattle.std.proofs.Common.{◌≡◌, map, List, ℤ, sym, ap, ◌∙◌, sub
 use Rattle.facts.specs.Lists.{Nth}
 use Rattle.facts.specs.Meanings.{Meaning, read_meaning}
 use Rattle.grammar.specs.Atoms.{BodyFact}
-use Rattle.grammar.specs.Parts.{parts}
+use Rattle.grammar.specs.Parts.{seen}
 use Rattle.matching.specs.Applying.{values, written, body}
 use Rattle.matching.proofs.Bodies.{nth_map}
 use Rattle.matching.proofs.Laws.{body_is_exact}
@@ -12,13 +12,13 @@ pub returns : goal.returns
 returns c =
     let low = c.args.ends.low in
     let high = c.args.ends.high in
-    let rule = parts c.args.rule.now in
+    let rule = seen c.args.rule in
     let facts = map read_meaning c.args.facts.now in
     let found = c.in_ok-fact.ensures.lookup in
     let written_fact = read_meaning c.fact_written.result in
     let write : BodyFact → Meaning = λ b. written low high (values rule facts) b in
     let is : written_fact ≡ write c.in_ok-fact.fact.now = c.fact_written.ensures.meaning ∙ ap (λ (ns : List ℤ). written low high ns c.in_ok-fact.fact.now) c.values_of.ensures in
-    let there : Nth (body low high rule facts) c.args.index written_fact = subst (λ (bs : List BodyFact). Nth (map write bs) c.args.index written_fact) c.deref.ensures.0 (nth_map write c.deref.result.now c.args.index c.in_ok-fact.fact.now written_fact found.3.0 (is ∙ ap write found.1)) in
+    let there : Nth (body low high rule facts) c.args.index written_fact = nth_map write rule.body c.args.index c.in_ok-fact.fact.now written_fact found.3.0 (is ∙ ap write found.1) in
     record {
       meaning = there;
       spare = λ others e. subst (λ (ms : List Meaning). Nth (body low high rule ms) c.args.index written_fact) (sym e) there;
