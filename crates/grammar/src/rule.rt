@@ -1,3 +1,4 @@
+use crate::limits::{MOST_BODY, MOST_GUARDS, MOST_HEADS};
 use crate::part::{BodyFact, Guard, Head};
 use arrayvec::ArrayVec;
 
@@ -5,8 +6,8 @@ use arrayvec::ArrayVec;
 #[derive(Default, Drop)]
 pub struct Rule {
     pub label: u16,
-    pub kept: ArrayVec<Head, 3>,
-    pub taken: ArrayVec<Head, 3>,
-    pub guards: ArrayVec<Guard, 4>,
-    pub body: ArrayVec<BodyFact, 3>,
+    pub kept: ArrayVec<Head, MOST_HEADS>,
+    pub taken: ArrayVec<Head, MOST_HEADS>,
+    pub guards: ArrayVec<Guard, MOST_GUARDS>,
+    pub body: ArrayVec<BodyFact, MOST_BODY>,
 }

@@ -4,10 +4,9 @@ ghost use Rattle.rules.specs.Progress.{Gives};
 
 use crate::fault::Fault;
 use crate::read::{Argument, read_args, read_term};
+use facts::MOST_ARGS;
 use grammar::{Atom, Guard, Reason, Test};
 use words::Word;
-
-const MOST_ARGS: u8 = 3;
 
 const LAST_TEST: u8 = 3;
 
