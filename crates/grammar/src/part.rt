@@ -1,6 +1,7 @@
 ghost use Rattle.std.specs.Prelude.{◌≡◌, pos};
 ghost use Rattle.grammar.specs.declared.part.Operand.TheVariants.{Const};
 ghost use Rattle.grammar.specs.declared.part.Term.TheVariants.{One};
+ghost use Rattle.grammar.specs.Tests.{NamesTest};
 
 use args::Args;
 
@@ -43,6 +44,26 @@ pub enum Test {
     NotEqual,
     Less,
     AtMost,
+}
+
+// A number that names no test.
+#[derive(Clone, Copy, PartialEq, Debug)]
+pub struct UnknownTest(pub u8);
+
+impl TryFrom<u8> for Test {
+    type Error = UnknownTest;
+
+    ghost try_from_gives = { NamesTest };
+
+    fn try_from(number: u8) -> Result<Test, UnknownTest> {
+        match number {
+            0 => Ok(Test::Equal),
+            1 => Ok(Test::NotEqual),
+            2 => Ok(Test::Less),
+            3 => Ok(Test::AtMost),
+            _ => Err(UnknownTest(number)),
+        }
+    }
 }
 
 // A name and arguments.

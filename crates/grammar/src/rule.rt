@@ -1,6 +1,7 @@
 ghost use Rattle.std.specs.Prelude.{◌≡◌};
 ghost use Rattle.grammar.specs.Parts.{parts, seen};
 
+use crate::limits::{MOST_BODY, MOST_GUARDS, MOST_HEADS};
 use crate::part::{BodyFact, Guard, Head};
 use arrayvec::ArrayVec;
 
@@ -8,10 +9,10 @@ use arrayvec::ArrayVec;
 #[derive(Default, Drop)]
 pub struct Rule {
     pub label: u16,
-    pub kept: ArrayVec<Head, 3>,
-    pub taken: ArrayVec<Head, 3>,
-    pub guards: ArrayVec<Guard, 4>,
-    pub body: ArrayVec<BodyFact, 3>,
+    pub kept: ArrayVec<Head, MOST_HEADS>,
+    pub taken: ArrayVec<Head, MOST_HEADS>,
+    pub guards: ArrayVec<Guard, MOST_GUARDS>,
+    pub body: ArrayVec<BodyFact, MOST_BODY>,
 }
 
 // The parts of a rule, in any number, wherever they stand.

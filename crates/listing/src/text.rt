@@ -1,6 +1,6 @@
 ghost use Rattle.std.specs.Iterator.{IsFinite};
 
-use grammar::{Atom, Guard, Operand, Rule, Term, Test};
+use grammar::{Atom, Guard, LAST_VAR, Operand, Rule, Term, Test};
 use std::fmt;
 
 // What a listing writes of a rule and of its parts.
@@ -20,7 +20,7 @@ impl<T: Listed> fmt::Display for Text<T> {
 
 // A variable's letter: A for 0 to H for 7.
 fn letter(variable: u8) -> char {
-    if variable < 8 {
+    if variable <= LAST_VAR {
         char::from(b'A' + variable)
     } else {
         '?'

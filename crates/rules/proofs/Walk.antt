@@ -102,8 +102,9 @@ module _ (rs : List Rule) (ws : List ℕ) (f : Formed standard (map parts rs)) (
   pub rule_formed : FormedRule standard (parts r)
   rule_formed = all_nth (FormedRule standard) (map parts rs) i (parts r) f.each here
 
-  pub rule_found : (fault : LoadFault) (offset : ℕ) → RuleFault (parts r) last fault offset → FirstFault (map parts rs) fault (at + offset)
-  rule_found fault offset k =
+  pub rule_found : (fault : LoadFault) (offset : ℕ) → RuleFault (parts r) last fault offset →
+      (told : LoadFault) (place : ℕ) → told ≡ fault → place ≡ at + offset → FirstFault (map parts rs) told place
+  rule_found fault offset k told place d e =
       record {
         index = i;
         rule = parts r;
@@ -111,8 +112,8 @@ module _ (rs : List Rule) (ws : List ℕ) (f : Formed standard (map parts rs)) (
         stands = here;
         sound = w.sound;
         rising = w.rising;
-        wrong = subst (λ (n : ℕ). RuleFault (parts r) n fault offset) w.label k;
-        at = ap (λ (n : ℕ). n + offset) w.begins;
+        wrong = subst (λ (x : LoadFault). RuleFault (parts r) (last_label 0 (take i (map parts rs))) x offset) (sym d) (subst (λ (n : ℕ). RuleFault (parts r) n fault offset) w.label k);
+        at = e ∙ ap (λ (n : ℕ). n + offset) w.begins;
       }
 
   module _ (size : ℕ) (e : size ≡ rule_size (parts r)) where

@@ -1,4 +1,4 @@
-ghost use Rattle.std.specs.Prelude.{◌≡◌, ◌+◌, ◌<◌, ◌≤◌, ℕ, List, ◌++◌, map, length, sum_by, position, IfNone, IfSome};
+ghost use Rattle.std.specs.Prelude.{◌≡◌, ◌+◌, ◌<◌, ◌≤◌, ℕ, List, ◌++◌, map, length, sum_by, position, OnOk, IfErr};
 ghost use Rattle.grammar.specs.Parts.{parts};
 ghost use Rattle.grammar.specs.Validity.{is_var, head_has, binds, free, Sound, Valid};
 ghost use Rattle.grammar.specs.Writing.{standard, FormedRule, Formed, rule_words, written};
@@ -52,42 +52,40 @@ fn first_free(rule: &Rule, ws: &[u32]) -> Option<usize>
 }
 
 // The fault of a well-formed rule and its offset in the rule's words; the label before it was `last`.
-fn rule_fault(rule: &Rule, last: u16, ws: &[u32]) -> Option<(LoadFault, usize)>
+fn rule_fault(rule: &Rule, last: u16, ws: &[u32]) -> Result<(), (LoadFault, usize)>
     requires formed { FormedRule standard (parts rule.now) }
     requires words { ws.now ≡ rule_words (parts rule.now) }
-    ensures sound { IfNone result (Sound (parts rule.now)) }
-    ensures rises { IfNone result (last < rule.now.label) }
-    ensures fault { IfSome result (λ x. RuleFault (parts rule.now) last x.0 x.1) }
+    ensures sound { OnOk result (Sound (parts rule.now)) }
+    ensures rises { OnOk result (last < rule.now.label) }
+    ensures fault { IfErr result (λ x. RuleFault (parts rule.now) last x.0 x.1) }
 {
     let heads = heads_size(rule);
     if let Some(n) = first_free(rule, &ws[heads..]) {
-        return Some((LoadFault::Unbound, heads + n));
+        return Err((LoadFault::Unbound, heads + n));
     }
     if rule.taken.is_empty() {
-        return Some((LoadFault::NoTaken, 0));
+        return Err((LoadFault::NoTaken, 0));
     }
     if rule.label <= last {
-        return Some((LoadFault::Label, 0));
+        return Err((LoadFault::Label, 0));
     }
-    None
+    Ok(())
 }
 
 // The first fault of the rules of a well-formed table and its place in the table's words.
-pub(crate) fn first_fault(rules: &[Rule], ws: &[u32]) -> Option<(LoadFault, usize)>
+pub(crate) fn first_fault(rules: &[Rule], ws: &[u32]) -> Result<(), (LoadFault, usize)>
     requires formed { Formed standard (map parts rules.now) }
     requires begins { (us : List ℕ) × (ws.now ≡ written (map parts rules.now) ++ us) }
-    ensures valid { IfNone result (Valid (map parts rules.now)) }
-    ensures fault { IfSome result (λ x. FirstFault (map parts rules.now) x.0 x.1) }
+    ensures valid { OnOk result (Valid (map parts rules.now)) }
+    ensures fault { IfErr result (λ x. FirstFault (map parts rules.now) x.0 x.1) }
 {
     let mut at = 0;
     let mut last = 0;
     for rule in rules {
         let size = rule_size(rule);
-        if let Some((fault, offset)) = rule_fault(rule, last, &ws[at..at + size]) {
-            return Some((fault, at + offset));
-        }
+        rule_fault(rule, last, &ws[at..at + size]).map_err(|(fault, offset)| (fault, at + offset))?;
         at += size;
         last = rule.label;
     }
-    None
+    Ok(())
 }

@@ -1,5 +1,5 @@
 ghost use Rattle.std.specs.Prelude.{◌≡◌, true, false, OnOk, OnErr, IfErr};
-ghost use Rattle.grammar.specs.declared.reason.Reason.TheVariants.{OutOfTurn};
+ghost use Rattle.grammar.specs.declared.reason.Reason.TheVariants.{OutOfTurn, OutOfRange};
 
 use grammar::Reason;
 
@@ -17,6 +17,16 @@ impl Fault {
     {
         Fault {
             reason: Reason::OutOfTurn,
+            left,
+        }
+    }
+
+    // A number or an amount is too large.
+    pub(crate) fn out_of_range(left: usize) -> Fault
+        ensures { result ≡ record { reason = OutOfRange; left = left } }
+    {
+        Fault {
+            reason: Reason::OutOfRange,
             left,
         }
     }

@@ -68,9 +68,7 @@ pub fn load(words: &[u32]) -> Result<Loaded, Refusal>
     ensures accepts { Accepts words.now result }
 {
     let (rules, rest) = read_table(words).map_err(|fault| refused(fault, words))?;
-    if let Some((fault, place)) = first_fault(&rules, words) {
-        return Err(refusal(fault, place, words));
-    }
+    first_fault(&rules, words).map_err(|(fault, place)| refusal(fault, place, words))?;
     Ok(Loaded {
         table: Table { rules },
         used: words.len() - rest.len(),

@@ -1,15 +1,12 @@
 ghost use Rattle.std.specs.Prelude.{◌≡◌, ℕ, ◌+◌, ◌≤◌, List};
-ghost use Rattle.grammar.specs.Reading.{Parsed, test_at, read_guard, read_atom};
+ghost use Rattle.grammar.specs.Reading.{Parsed, read_guard, read_atom};
 ghost use Rattle.rules.specs.Progress.{Gives};
 
 use crate::fault::Fault;
 use crate::read::{Argument, read_args, read_term};
+use facts::MOST_ARGS;
 use grammar::{Atom, Guard, Reason, Test};
 use words::Word;
-
-const MOST_ARGS: u8 = 3;
-
-const LAST_TEST: u8 = 3;
 
 // A part of a rule, read after its first word.
 pub(crate) trait Part: Copy {
@@ -31,25 +28,12 @@ impl<A: Argument> Part for Atom<A> {
     }
 }
 
-// The test of a number; the last for those above it. No TryFrom: Test and u8 are of other crates.
-fn test_at(number: u8) -> Test
-    ensures { result ≡ test_at number }
-{
-    match number {
-        0 => Test::Equal,
-        1 => Test::NotEqual,
-        2 => Test::Less,
-        _ => Test::AtMost,
-    }
-}
-
 impl Part for Guard {
     ghost reads = { read_guard };
 
     fn read_rest(first: Word, ws: &[u32]) -> Result<(Guard, &[u32]), Fault> {
-        let number = first.count();
-        Fault::unless(number <= LAST_TEST, Reason::OutOfRange, ws.len() + 1)?;
-        let test = test_at(number);
+        let left = ws.len() + 1;
+        let test = Test::try_from(first.count()).map_err(|_| Fault::out_of_range(left))?;
         let (left, rest) = read_term(ws)?;
         let (right, rest) = read_term(rest)?;
         Ok((Guard { test, left, right }, rest))

@@ -12,6 +12,7 @@ use grammar::Reason;
 use words::{Kind, Word};
 
 // Puts the parts of one kind that stand next after those read before, `room` more at most.
+// A form of the project: words are taken apart as first word and rest, until END; `room` is what is left, no index.
 fn read_more<'a, P: Part, const N: usize>(
     parts: &mut ArrayVec<P, N>,
     kind: Kind,

@@ -3,10 +3,8 @@ ghost use Rattle.grammar.specs.Reading.{Parsed, read_operand, read_pair, read_te
 ghost use Rattle.rules.specs.Progress.{Gives};
 
 use crate::fault::Fault;
-use grammar::{Args, Operand, Reason, Term};
+use grammar::{Args, LAST_VAR, Operand, Reason, Term};
 use words::{Kind, Word};
-
-const LAST_VAR: u8 = 7;
 
 // The first word and the rest.
 pub(crate) fn first_rest(ws: &[u32]) -> Option<(u32, &[u32])>

@@ -1,5 +1,6 @@
 ghost use Rattle.std.specs.Prelude.{◌+◌, ◌≤◌, map};
 ghost use Rattle.arrayvec.specs.ArrayVec.{array_vec_len};
+ghost use Rattle.grammar.specs.declared.limits.TheConstants.{MOST_RULES};
 ghost use Rattle.grammar.specs.Parts.{parts};
 ghost use Rattle.grammar.specs.Writing.{standard};
 ghost use Rattle.grammar.specs.Reading.{read_rule, read_rules, read_table};
@@ -9,16 +10,8 @@ use crate::fault::Fault;
 use crate::parts::read_parts;
 use crate::read::first_rest;
 use arrayvec::ArrayVec;
-use grammar::{Reason, Rule};
+use grammar::{MOST_BODY, MOST_GUARDS, MOST_HEADS, MOST_RULES, Reason, Rule};
 use words::{Kind, Word};
-
-const MOST_RULES: usize = 32;
-
-const MOST_HEADS: usize = 3;
-
-const MOST_GUARDS: usize = 4;
-
-const MOST_BODY: usize = 3;
 
 // The rest of a rule, given its label.
 fn read_rule(label: u16, ws: &[u32]) -> Result<(Rule, &[u32]), Fault>
@@ -44,12 +37,13 @@ fn read_rule(label: u16, ws: &[u32]) -> Result<(Rule, &[u32]), Fault>
 }
 
 // Puts the rules up to END after those read before, `room` more at most; gives the words after END.
+// A form of the project: words are taken apart as first word and rest, until END; `room` is what is left, no index.
 fn read_rules<'a>(
-    rules: &mut ArrayVec<Rule, 32>,
+    rules: &mut ArrayVec<Rule, MOST_RULES>,
     room: usize,
     ws: &'a [u32],
 ) -> Result<&'a [u32], Fault>
-    requires { array_vec_len rules.old + room ≤ 32 }
+    requires { array_vec_len rules.old + room ≤ MOST_RULES }
     ensures { Adds (map parts rules.old.items) (read_rules standard room ws.now) (map parts rules.new.items) result }
 {
     let left = ws.len();
@@ -72,7 +66,7 @@ fn read_rules<'a>(
 }
 
 // The rules of the table that the words begin with, and the words after it.
-pub(crate) fn read_table(ws: &[u32]) -> Result<(ArrayVec<Rule, 32>, &[u32]), Fault>
+pub(crate) fn read_table(ws: &[u32]) -> Result<(ArrayVec<Rule, MOST_RULES>, &[u32]), Fault>
     ensures { GivesAs (λ rules. map parts rules.items) (read_table standard ws.now) result }
 {
     let mut rules = ArrayVec::new();

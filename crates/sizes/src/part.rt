@@ -51,6 +51,7 @@ impl<A: Argument> Written for Atom<A> {
     ghost size = { atom_size A.size };
 
     fn size(self) -> usize {
+        // As a chain the value proves, but not that the sum fits, nor its bound.
         let mut size = 1;
         for argument in self.args {
             size += argument.size();

@@ -11,6 +11,7 @@ fn total_size<P: Written>(items: &[P]) -> usize
     ensures value { result ≡ sum_by P.size items.now }
     ensures bound { result ≤ 40 }
 {
+    // As a chain the sum proves, but not its bound.
     let mut size = 0;
     for item in items {
         size += item.size();

@@ -9,12 +9,7 @@ use crate::part::Part;
 use crate::refusal::Refusal;
 use crate::tally::Tally;
 use crate::variables::{bind_head, is_within};
-
-const MOST_HEADS: usize = 3;
-
-const MOST_GUARDS: usize = 4;
-
-const MOST_BODY: usize = 3;
+use grammar::{MOST_BODY, MOST_GUARDS, MOST_HEADS};
 
 // Puts words from a place on; gives the place after them.
 pub fn put_words(memory: &mut [u32], at: usize, words: &[u32]) -> usize

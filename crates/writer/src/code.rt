@@ -7,9 +7,8 @@ ghost use Rattle.arrayvec.specs.ArrayVec.{array_vec_len};
 ghost use Rattle.writer.specs.Tallies.{Formed, part_words};
 
 use crate::part::Part;
-use crate::variables::LAST_VAR;
 use arrayvec::ArrayVec;
-use grammar::{Args, Atom, Guard, Operand, Term, Test};
+use grammar::{Args, Atom, Guard, LAST_VAR, Operand, Term, Test};
 use words::{Kind, Word, constant_word, fact_word};
 
 // The words of a part: a first word, and at most three for each of three arguments.

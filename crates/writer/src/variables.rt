@@ -2,10 +2,8 @@ ghost use Rattle.std.specs.Prelude.{◌≡◌, Decides, length};
 ghost use Rattle.grammar.specs.Writing.{FormedOperand, FormedHead};
 ghost use Rattle.writer.specs.Variables.{free_of, Within, bind_operand, bind_head};
 
-use grammar::{Head, Operand};
+use grammar::{Head, LAST_VAR, Operand};
 use words::{Kind, Word};
-
-pub const LAST_VAR: u8 = 7;
 
 // Whether a word is a VAR word whose variable is not among these.
 fn is_free(word: u32, variables: u8) -> bool

@@ -8,10 +8,9 @@ use crate::code::word_of;
 use crate::refusal::{Refusal, Refused};
 use crate::table::{Begun, OpenRule, TableWriter};
 use crate::tally::Tally;
+use grammar::MOST_RULES;
 use std::marker::PhantomData;
 use words::Kind;
-
-const MOST_RULES: usize = 32;
 
 impl TableWriter {
     // A table with no rule.

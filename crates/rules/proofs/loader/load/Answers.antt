@@ -1,4 +1,4 @@
-use Rattle.std.proofs.Common.{◌≡◌, ◌-◌, List, map, length, Ok, Err, ap, ◌∙◌, subst, rules}
+use Rattle.std.proofs.Common.{◌≡◌, ℕ, ◌-◌, List, map, length, Ok, Err, ap, ◌∙◌, subst, rules}
 use Rattle.grammar.specs.declared.rule.Rule.{Rule}
 use Rattle.grammar.specs.Parts.{parts}
 use Rattle.grammar.specs.Validity.{Valid}
@@ -7,6 +7,8 @@ use Rattle.grammar.specs.Writing.{standard, written}
 use Rattle.std.proofs.lemmas.Result.{err_from_is_err_and}
 use Rattle.grammar.specs.Faults.{rule_words_to}
 use Rattle.rules.specs.declared.fault.Fault.{Fault}
+use Rattle.rules.specs.declared.refusal.LoadFault.{LoadFault}
+use Rattle.rules.specs.Faults.{FirstFault}
 use Rattle.rules.specs.Loading.{fault_of}
 use Rattle.rules.proofs.Loads.{mapped_ok, mapped_err, refused_loads, word_accepts, lent, table_formed, table_words, table_left, table_used, table_same, fault_loads, fault_accepts}
 use Rattle.rules.proofs.loader.load.Goals as goal
@@ -35,17 +37,25 @@ first_fault-requires c =
     let g = lent c.args.words.now c.in_ok-rules.rest.now c.in_ok-rules.rules.items c.deref.result.now h c.deref.ensures.0 in
     record { formed = table_formed c.args.words.now _ _ g; begins = (c.in_ok-rules.rest.now, table_words c.args.words.now _ _ g) }
 
-pub returns-in-Some : goal.returns-in-Some
-returns-in-Some c =
+pub returns-in_err-map_err : goal.returns-in_err-map_err
+returns-in_err-map_err c =
+    let x = c.in_err-map_err.field-0.0 in
     let k : c.read_table.result ≡ Ok (c.in_ok-rules.rules, c.in_ok-rules.rest) = mapped_ok _ _ _ _ c.map_err.ensures.cases c.in_ok-rules.was in
     let h : read_table standard c.args.words.now ≡ ok (map parts c.in_ok-rules.rules.items) c.in_ok-rules.rest.now = rw k at c.read_table.ensures in
     let g = lent c.args.words.now c.in_ok-rules.rest.now c.in_ok-rules.rules.items c.deref.result.now h c.deref.ensures.0 in
-    let e = c.refusal.ensures in
-    let f = c.in-Some.ensures.fault in
-    record {
-      loads = fault_loads c.args.words.now _ _ g c.refusal.result c.in-Some.fault c.in-Some.place f e.fault e.place e.rules;
-      accepts = fault_accepts c.args.words.now _ _ g c.in-Some.fault c.in-Some.place f;
-    }
+    let e = mapped_err {E = LoadFault × ℕ} _ _ _ x c.map_err-2.ensures.cases c.in_err-map_err.was in
+    let was : c.first_fault.result ≡ Err e.0 = e.1 in
+    let f : FirstFault (map parts c.deref.result.now) e.0.0 e.0.1 = rw was at c.first_fault.ensures.fault in
+    let said = e.2 in
+    let fault : x.fault ≡ e.0.0 = search rules in
+    let place : x.place ≡ e.0.1 = search rules in
+    let counted : x.rules ≡ rule_words_to c.args.words.now e.0.1 = search rules in
+    let p = err_from_is_err_and c.from_residual-in_err-map_err.result c.from_residual-in_err-map_err.ensures.1 in
+    rw (p.1, p.2)
+    (record {
+      loads = fault_loads c.args.words.now _ _ g x e.0.0 e.0.1 f fault place counted;
+      accepts = fault_accepts c.args.words.now _ _ g e.0.0 e.0.1 f;
+    })
 
 pub overflow_sub-result : goal.overflow_sub-result
 overflow_sub-result c =
@@ -59,7 +69,9 @@ returns c =
     let h : read_table standard c.args.words.now ≡ ok (map parts c.in_ok-rules.rules.items) c.in_ok-rules.rest.now = rw k at c.read_table.ensures in
     let u = table_used c.args.words.now _ _ h in
     let same = table_same c.args.words.now _ _ h in
-    let valid = subst (λ (rs : List Rule). Valid (map parts rs)) c.deref.ensures.0 c.in_default.ensures.valid in
+    let good : c.first_fault.result ≡ Ok tt = mapped_ok _ _ _ _ c.map_err-2.ensures.cases c.in_ok-map_err.was in
+    let sound : Valid (map parts c.deref.result.now) = rw good at c.first_fault.ensures.valid in
+    let valid = subst (λ (rs : List Rule). Valid (map parts rs)) c.deref.ensures.0 sound in
     record {
       loads = (valid, u, (c.in_ok-rules.rest.now, table_words c.args.words.now _ _ h));
       accepts = λ rs us v e. (same rs us v e, u ∙ ap (λ qs. length (written qs)) (same rs us v e));
