@@ -12,7 +12,7 @@ use crate::variables::{bind_head, is_within};
 use grammar::{MOST_BODY, MOST_GUARDS, MOST_HEADS};
 
 // Puts words from a place on; gives the place after them.
-pub fn put_words(memory: &mut [u32], at: usize, words: &[u32]) -> usize
+pub(crate) fn put_words(memory: &mut [u32], at: usize, words: &[u32]) -> usize
     requires { at + length words.now ≤ length memory.old }
     ensures memory { memory.new ≡ placed at words.now memory.old }
     ensures value { result ≡ at + length words.now }
@@ -23,7 +23,7 @@ pub fn put_words(memory: &mut [u32], at: usize, words: &[u32]) -> usize
 }
 
 // Puts words behind the words so far.
-pub fn add_words(memory: &mut [u32], used: usize, words: &[u32]) -> Result<usize, Refusal>
+pub(crate) fn add_words(memory: &mut [u32], used: usize, words: &[u32]) -> Result<usize, Refusal>
     ensures { MatchResult result (λ n. (n ≡ used + length words.now) × Room used words.now memory.old × (memory.new ≡ placed used words.now memory.old)) (λ e. (e ≡ NoRoom) × (Room used words.now memory.old → ⊥) × (memory.new ≡ memory.old)) }
 {
     if used > memory.len() || words.len() > memory.len() - used {

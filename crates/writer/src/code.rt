@@ -15,7 +15,7 @@ use words::{Kind, Word, constant_word, fact_word};
 pub type Code = ArrayVec<u32, 10>;
 
 // The word of a kind and a payload.
-pub fn word_of(kind: Kind, payload: u32) -> u32
+pub(crate) fn word_of(kind: Kind, payload: u32) -> u32
     requires { payload < 2 ^ 28 }
     ensures { result ≡ word (tag kind) payload }
 {

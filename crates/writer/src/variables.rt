@@ -15,7 +15,7 @@ fn is_free(word: u32, variables: u8) -> bool
 }
 
 // Whether every variable in these words is among these.
-pub fn is_within(words: &[u32], variables: u8) -> bool
+pub(crate) fn is_within(words: &[u32], variables: u8) -> bool
     ensures { Decides result (Within variables words.now) }
 {
     words.iter().all(|word| !is_free(*word, variables))
@@ -32,7 +32,7 @@ fn bind_operand(variables: u8, operand: Operand) -> u8
 }
 
 // The variables of one head more.
-pub fn bind_head(variables: u8, head: Head) -> u8
+pub(crate) fn bind_head(variables: u8, head: Head) -> u8
     requires { FormedHead head }
     ensures { result ≡ bind_head variables head }
 {
