@@ -8,7 +8,7 @@ ghost use Rattle.matching.specs.Written.{WrittenAt, Between};
 
 use crate::body::{body_within, fact_written};
 use crate::ends::Ends;
-use crate::heads::{agree, bound, head_fits, heads};
+use crate::heads::{agree, bound, head_fits};
 use crate::values::Values;
 use crate::verdict::Verdict;
 use facts::ReadFact;
@@ -47,8 +47,12 @@ pub fn head_fits_at(rule: RuleParts<'_>, position: usize, fact: &ReadFact) -> bo
     ensures answer { result ≡ fits (seen rule.entry) position (read_meaning fact.now) }
     ensures spare { (other : Read) → read_meaning other ≡ read_meaning fact.now → result ≡ fits (seen rule.entry) position (read_meaning other) }
 {
-    heads(rule)
-        .nth(position)
+    let kept = rule.kept.len();
+    if position < kept {
+        return head_fits(&rule.kept[position], fact);
+    }
+    rule.taken
+        .get(position - kept)
         .is_some_and(|head| head_fits(head, fact))
 }
 
@@ -63,7 +67,7 @@ pub fn body_count(rule: RuleParts<'_>) -> usize
 fn values_of(rule: RuleParts<'_>, facts: &[ReadFact]) -> Values
     ensures { result.numbers ≡ values (seen rule.entry) (map read_meaning facts.now) }
 {
-    bound(rule, facts).unwrap_or(Values::unbound())
+    bound(rule, facts).unwrap_or_else(Values::unbound)
 }
 
 // The body's fact at an index, counted from 0, as the rule writes it for these facts; none past the body's end.

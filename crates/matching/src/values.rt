@@ -1,17 +1,11 @@
-ghost use Rattle.std.specs.Prelude.{◌≡◌};
-ghost use Rattle.std.specs.Array.Iter.{array_steps};
-ghost use Rattle.std.specs.Iterator.{AlwaysYields};
-ghost use Rattle.std.specs.Iterator.Adapters.{take_steps};
+ghost use Rattle.std.specs.Prelude.{◌≡◌, [], ◌∷◌};
 ghost use Rattle.std.specs.List.{list_all};
 ghost use Rattle.args.specs.Listed.{listed};
-ghost use Rattle.facts.specs.Meanings.{numbers, read_meaning};
 ghost use Rattle.matching.specs.Terms.{operand_value, term_value, holds};
 ghost use Rattle.matching.specs.Heads.{met_args, unbound, bind_one, bind_all, agree};
 
 use facts::ReadFact;
-use grammar::{Guard, Head, Operand, Term, Test};
-use std::array::IntoIter;
-use std::iter::Take;
+use grammar::{Args, Guard, Head, Operand, Term, Test};
 
 const VARIABLES: usize = 8;
 
@@ -19,14 +13,6 @@ const VARIABLES: usize = 8;
 #[derive(Clone, Copy)]
 pub(crate) struct Values {
     pub(crate) numbers: [i32; VARIABLES],
-}
-
-// The numbers that a fact's arguments are; the spare ones are left out.
-fn numbers(fact: &ReadFact) -> Take<IntoIter<i32, 3>>
-    ensures { AlwaysYields (take_steps array_steps) (λ n. n) result (numbers fact.now) }
-{
-    let (a, b, c) = fact.args;
-    [a, b, c].into_iter().take(usize::from(fact.count))
 }
 
 impl Values {
@@ -82,8 +68,8 @@ impl Values {
     }
 
     // A variable takes the number that it meets; one past the last takes none.
-    fn with(mut self, operand: Operand, number: i32) -> Values
-        ensures { result.numbers ≡ bind_one self.numbers operand number }
+    fn set(&mut self, operand: Operand, number: i32)
+        ensures { self.new.numbers ≡ bind_one self.old.numbers operand number }
     {
         if let Operand::Var(v) = operand {
             let index = usize::from(v);
@@ -92,26 +78,40 @@ impl Values {
                 self.numbers[index] = number;
             }
         }
-        self
     }
 
-    // Each variable of a head takes the number that it meets in the fact.
-    pub(crate) fn bind(self, head: &Head, fact: &ReadFact) -> Values
-        ensures { result.numbers ≡ bind_all self.numbers (met_args (listed head.now.args) (read_meaning fact.now).args) }
+    // Each variable of a head takes the number that it meets in the fact. A head meets no spare number of a fact that fits.
+    pub(crate) fn bind(&mut self, head: &Head, fact: &ReadFact)
+        ensures { self.new.numbers ≡ bind_all self.old.numbers (met_args (listed head.now.args) (fact.now.args.0 ∷ (fact.now.args.1 ∷ (fact.now.args.2 ∷ [])))) }
     {
-        head.args.into_iter().zip(numbers(fact)).fold(
-            self,
-            |values, (operand, number)| values.with(operand, number),
-        )
+        let (first, second, third) = fact.args;
+        match head.args {
+            Args::Zero => {}
+            Args::One(a) => self.set(a, first),
+            Args::Two(a, b) => {
+                self.set(a, first);
+                self.set(b, second);
+            }
+            Args::Three(a, b, c) => {
+                self.set(a, first);
+                self.set(b, second);
+                self.set(c, third);
+            }
+        }
     }
 
-    // Whether each operand of a head means the number that it meets in the fact.
+    // Whether each operand of a head means the number that it meets in the fact, as `bind` pairs them.
     pub(crate) fn agree(&self, head: &Head, fact: &ReadFact) -> bool
-        ensures { result ≡ agree self.now.numbers (met_args (listed head.now.args) (read_meaning fact.now).args) }
+        ensures { result ≡ agree self.now.numbers (met_args (listed head.now.args) (fact.now.args.0 ∷ (fact.now.args.1 ∷ (fact.now.args.2 ∷ [])))) }
     {
-        head.args
-            .into_iter()
-            .zip(numbers(fact))
-            .all(|(operand, number)| self.operand(operand) == number)
+        let (first, second, third) = fact.args;
+        match head.args {
+            Args::Zero => true,
+            Args::One(a) => self.operand(a) == first,
+            Args::Two(a, b) => self.operand(a) == first && self.operand(b) == second,
+            Args::Three(a, b, c) => {
+                self.operand(a) == first && self.operand(b) == second && self.operand(c) == third
+            }
+        }
     }
 }

@@ -1,19 +1,56 @@
-use Rattle.std.proofs.Common.{Bool, List, map, cond, ℤ, sym, ap, ◌∙◌, rules}
-use Rattle.std.proofs.lemmas.Iterator.Consumers.{fold_from_yields_List}
+use Rattle.std.proofs.Common.{◌≡◌, Bool, cond, ◌&&◌, List, ◌++◌, length, map, ℤ, refl, ap, ◌∙◌, arith}
+use Rattle.std.proofs.lemmas.List.{length-append}
 use Rattle.facts.specs.Meanings.{read_meaning}
 use Rattle.grammar.specs.Parts.{seen}
-use Rattle.matching.specs.declared.values.Values.{Values}
-use Rattle.matching.specs.Heads.{met, bind_all, unbound}
+use Rattle.matching.specs.Heads.{all_fit, met, bind_all, unbound}
 use Rattle.matching.specs.Applying.{heads}
-use Rattle.matching.proofs.Meetings.{with_pair, heads_bind}
-use Rattle.matching.proofs.Roads.{pairs_give}
+use Rattle.matching.proofs.Meetings.{unfit, none_met, fit_parts, bind_parts}
 use Rattle.matching.proofs.heads.bound.Goals as goal
 
-pub returns-clause-numbers : goal.returns-clause-numbers
-returns-clause-numbers c =
-    let hs = heads (seen c.args.rule) in
+pub returns-then-facts-kept : goal.returns-then-facts-kept
+returns-then-facts-kept c =
+    let rule = c.args.rule in
     let fs = c.args.facts.now in
-    let zeros = c.unbound.result in
-    let folded = fold_from_yields_List _ with_pair zeros c.fold-values.result c.fold-values.ensures.ran (pairs_give {s = c.zip.result} c.heads.result hs fs c.zip.ensures.first c.heads.ensures c.zip.ensures.second.0) (λ a x b q k. search rules) in
-    let ms = met hs (map read_meaning fs) in
-    ap (λ (v : Values). v.numbers) folded ∙ heads_bind zeros hs fs ∙ ap (λ (ns : List ℤ). bind_all ns ms) c.unbound.ensures ∙ ap (λ (b : Bool). cond b (bind_all unbound ms) unbound) (sym c.if-not-heads_fit.false ∙ c.heads_fit.ensures)
+    let no = unfit (heads (seen rule)) fs (λ e. omega (arith, e, length-append rule.kept.now rule.taken.now)) in
+    record { fit = no; numbers = none_met (heads (seen rule)) (map read_meaning fs) no }
+
+pub returns-then-not-bind_each : goal.returns-then-not-bind_each
+returns-then-not-bind_each c =
+    let ks = c.args.rule.kept.now in
+    let ts = c.args.rule.taken.now in
+    let fs = c.args.facts.now in
+    let front = c.split_at.result.0.now in
+    let back = c.split_at.result.1.now in
+    let as_many : length front ≡ length ks = omega (arith, c.split_at.ensures.front_len) in
+    let rest = all_fit ts (map read_meaning back) in
+    let no = ap (λ (b : Bool). b && rest) c.if-not-bind_each.ensures.fit ∙ fit_parts ks ts fs front back c.split_at.ensures.by_index.0 as_many in
+    record { fit = no; numbers = none_met (ks ++ ts) (map read_meaning fs) no }
+
+pub returns-then-not-bind_each-2 : goal.returns-then-not-bind_each-2
+returns-then-not-bind_each-2 c =
+    let ks = c.args.rule.kept.now in
+    let ts = c.args.rule.taken.now in
+    let fs = c.args.facts.now in
+    let front = c.split_at.result.0.now in
+    let back = c.split_at.result.1.now in
+    let as_many : length front ≡ length ks = omega (arith, c.split_at.ensures.front_len) in
+    let rest = all_fit ts (map read_meaning back) in
+    let no = c.if-not-bind_each-2.ensures.fit ∙ ap (λ (b : Bool). b && rest) c.if-not-bind_each.ensures.fit ∙ fit_parts ks ts fs front back c.split_at.ensures.by_index.0 as_many in
+    record { fit = no; numbers = none_met (ks ++ ts) (map read_meaning fs) no }
+
+pub returns : goal.returns
+returns c =
+    let ks = c.args.rule.kept.now in
+    let ts = c.args.rule.taken.now in
+    let fs = c.args.facts.now in
+    let front = c.split_at.result.0.now in
+    let back = c.split_at.result.1.now in
+    let as_many : length front ≡ length ks = omega (arith, c.split_at.ensures.front_len) in
+    let rest = all_fit ts (map read_meaning back) in
+    let fit = c.if-not-bind_each-2.ensures.fit ∙ ap (λ (b : Bool). b && rest) c.if-not-bind_each.ensures.fit ∙ fit_parts ks ts fs front back c.split_at.ensures.by_index.0 as_many in
+    let later = met ts (map read_meaning back) in
+    let all = met (ks ++ ts) (map read_meaning fs) in
+    record {
+      fit = fit;
+      numbers = c.if-not-bind_each-2.ensures.bound refl ∙ ap (λ (ns : List ℤ). bind_all ns later) (c.if-not-bind_each.ensures.bound refl) ∙ bind_parts ks ts fs front back c.split_at.ensures.by_index.0 as_many c.unbound-values.result.numbers ∙ ap (λ (ns : List ℤ). bind_all ns all) c.unbound-values.ensures ∙ ap (λ (b : Bool). cond b (bind_all unbound all) unbound) fit;
+    }
