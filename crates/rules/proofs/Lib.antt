@@ -1,4 +1,5 @@
 mod Firsts
+mod Readers
 mod Steps
 mod Tails
 mod Walk

@@ -1,12 +1,14 @@
 -- What was read is what the loader promises.
-use Rattle.std.proofs.Common.{◌≡◌, ℕ, zero, suc, ◌-◌, ◌<◌, ◌≤◌, false, List, [], ◌∷◌, ◌++◌, map, length, take, Result, Ok, Err, IsErrAnd, MatchResult, refl, sym, ap, ◌∙◌, subst, arith, length-append}
+use Rattle.std.proofs.Common.{◌≡◌, ℕ, zero, suc, ◌-◌, ◌<◌, ◌≤◌, false, List, [], ◌∷◌, ◌++◌, map, length, take, Result, Ok, Err, IsErrAnd, MatchResult, refl, sym, ap, ◌∙◌, subst, arith, length-append, Bor}
 use Rattle.facts.specs.Lists.{Nth}
 use Rattle.grammar.specs.declared.reason.Reason.{Reason}
 use Rattle.grammar.specs.declared.reason.Reason.TheVariants.{OutOfTurn as TurnReason, StrayBit as BitReason, OutOfRange as RangeReason}
 use Rattle.grammar.specs.declared.rule.Rule.{Rule}
 use Rattle.grammar.specs.Parts.{Parts, parts}
 use Rattle.grammar.specs.Writing.{standard, Formed, tail_words, written}
-use Rattle.grammar.specs.Reading.{ok, no, read_table}
+use Rattle.grammar.specs.Reading.{Parsed, ok, no, read_table}
+use Rattle.rules.specs.Progress.{Adds}
+use Rattle.rules.specs.declared.fault.Fault.{Fault}
 use Rattle.grammar.specs.Faults.{Faulty, rule_words_to}
 use Rattle.grammar.specs.Validity.{free, Sound, Rising, Valid, last_label}
 use Rattle.grammar.proofs.Codec.{table_all, table_only}
@@ -34,6 +36,14 @@ pub mapped_err : {T E D : Type 0} (P : E → D → Type 0) (s : Result T E) (r :
 mapped_err P (Ok y) r d h e = absurd (not_both r y d h e)
 mapped_err P (Err f) (Ok y) d h e = absurd h
 mapped_err P (Err f) (Err d) g h e = (f, refl, subst (P f) (let z : d ≡ g = cc in z) h)
+
+-- where nothing was read before, what was read is all that was added
+pub adds_first : {A : Type 0} (old : List A) (p : Parsed (List A)) (new : List A) (r : Result (Bor (List ℕ)) Fault) → old ≡ [] → Adds old p new r → MatchResult r (λ rest. p ≡ ok new rest.now) (λ fault. p ≡ no fault.reason fault.left)
+adds_first [] (ok ys us) new (Ok rest) e h = h
+adds_first [] (ok ys us) new (Err fault) e h = h
+adds_first [] (no r n) new (Ok rest) e h = h
+adds_first [] (no r n) new (Err fault) e h = h
+adds_first (x ∷ xs) p new r e h = absurd (omega (arith, ap length e))
 
 wrong_word : (ws : List ℕ) (place : ℕ) (r : Reason) → Faulty ws place r → Wrong ws (fault_of r) place
 wrong_word ws place TurnReason f = f

@@ -7,9 +7,10 @@ ghost use Rattle.rules.specs.Loading.{rules_of, fault_of, Loads, Accepts};
 use crate::check::first_fault;
 use crate::fault::Fault;
 use crate::refusal::{LoadFault, Refusal};
-use crate::rule::read_table;
+use crate::rule::read_rules;
 use crate::table::Table;
-use grammar::Rule;
+use arrayvec::ArrayVec;
+use grammar::{MOST_RULES, Rule};
 use words::{Kind, Word};
 
 // An accepted table, and how many words it took.
@@ -67,7 +68,8 @@ pub fn load(words: &[u32]) -> Result<Loaded, Refusal>
     ensures loads { Loads words.now result }
     ensures accepts { Accepts words.now result }
 {
-    let (rules, rest) = read_table(words).map_err(|fault| refused(fault, words))?;
+    let mut rules = ArrayVec::new();
+    let rest = read_rules(&mut rules, MOST_RULES, words).map_err(|fault| refused(fault, words))?;
     first_fault(&rules, words).map_err(|(fault, place)| refusal(fault, place, words))?;
     Ok(Loaded {
         table: Table { rules },

@@ -3,7 +3,7 @@ ghost use Rattle.arrayvec.specs.ArrayVec.{array_vec_len};
 ghost use Rattle.grammar.specs.declared.limits.TheConstants.{MOST_RULES};
 ghost use Rattle.grammar.specs.Parts.{parts};
 ghost use Rattle.grammar.specs.Writing.{standard};
-ghost use Rattle.grammar.specs.Reading.{read_rule, read_rules, read_table};
+ghost use Rattle.grammar.specs.Reading.{read_rule, read_rules};
 ghost use Rattle.rules.specs.Progress.{GivesAs, Adds};
 
 use crate::fault::Fault;
@@ -38,7 +38,8 @@ fn read_rule(label: u16, ws: &[u32]) -> Result<(Rule, &[u32]), Fault>
 
 // Puts the rules up to END after those read before, `room` more at most; gives the words after END.
 // A form of the project: words are taken apart as first word and rest, until END; `room` is what is left, no index.
-fn read_rules<'a>(
+// The rules are lent and not given back: a vector of fixed capacity is copied whole when it is moved.
+pub(crate) fn read_rules<'a>(
     rules: &mut ArrayVec<Rule, MOST_RULES>,
     room: usize,
     ws: &'a [u32],
@@ -63,13 +64,4 @@ fn read_rules<'a>(
         }
         _ => Err(Fault::out_of_turn(left)),
     }
-}
-
-// The rules of the table that the words begin with, and the words after it.
-pub(crate) fn read_table(ws: &[u32]) -> Result<(ArrayVec<Rule, MOST_RULES>, &[u32]), Fault>
-    ensures { GivesAs (λ rules. map parts rules.items) (read_table standard ws.now) result }
-{
-    let mut rules = ArrayVec::new();
-    let rest = read_rules(&mut rules, MOST_RULES, ws)?;
-    Ok((rules, rest))
 }
