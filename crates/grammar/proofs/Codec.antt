@@ -5,7 +5,7 @@ use Rattle.std.specs.List.{flat_map, AllByRecursion}
 use Rattle.std.proofs.lemmas.Bool.Decides.{nat_tests}
 use Rattle.words.specs.Words.{kind_of, payload_of, word, masks, allowed, clean, name_in, count_in, label_in, signed, unsigned}
 use Rattle.grammar.specs.declared.reason.Reason.{Reason}
-use Rattle.grammar.specs.declared.reason.Reason.TheVariants.{StrayBit}
+use Rattle.grammar.specs.declared.reason.Reason.TheVariants.{StrayBit, OutOfRange}
 use Rattle.grammar.specs.declared.part.Operand.{Operand}
 use Rattle.grammar.specs.declared.part.Operand.TheVariants.{Var, Const}
 use Rattle.grammar.specs.declared.part.Term.{Term}
@@ -207,6 +207,31 @@ pub record ReadsPart {A : Type 0} (read : ℕ → List ℕ → Parsed A) (k : �
   pub bits : (a : A) → Good a → allowed k (first a) ≡ true
   pub all : (a : A) (us : List ℕ) → Good a → read (first a) (rest a ++ us) ≡ ok a us
   pub only : (n : ℕ) (ws : List ℕ) (a : A) (us : List ℕ) → allowed k n ≡ true → read n ws ≡ ok a us → Good a × (n ≡ first a) × (ws ≡ rest a ++ us)
+
+-- a name, a count and that many arguments, whatever is made of them
+module _ {A : Type 0} {read : List ℕ → Parsed A} {words : A → List ℕ} {Good : A → Type 0} (R : Reads read words Good) where
+  named_all : {B : Type 0} (make : ℕ → Args A → B) (name : ℕ) (xs : Args A) (us : List ℕ) → name < 2 ^ 8 → AllByRecursion Good (listed xs) →
+      cond (ltb 3 (count_in (name * 2 ^ 16 + amount xs))) (no OutOfRange (suc (length (flat_map words (listed xs) ++ us))))
+      (then (read_args read (count_in (name * 2 ^ 16 + amount xs)) (flat_map words (listed xs) ++ us)) (λ ys vs. ok (make (name_in (name * 2 ^ 16 + amount xs)) ys) vs))
+      ≡ ok (make name xs) us
+  named_all make name xs us h g =
+      let b : amount xs ≤ 3 = amount_le R xs in
+      let c : count_in (name * 2 ^ 16 + amount xs) ≡ amount xs = count_in_lem name (amount xs) (omega arith) in
+      let n : name_in (name * 2 ^ 16 + amount xs) ≡ name = name_in_lem name (amount xs) h (omega arith) in
+      let t : ltb 3 (amount xs) ≡ false = grind (arith, nat_tests) in
+      rw (c, n, t, args_all R xs us g)
+
+  named_only : {B : Type 0} (make : ℕ → Args A → B) (n : ℕ) (ws : List ℕ) (b : B) (us : List ℕ) →
+      cond (ltb 3 (count_in n)) (no OutOfRange (suc (length ws))) (then (read_args read (count_in n) ws) (λ ys vs. ok (make (name_in n) ys) vs)) ≡ ok b us →
+      (xs : Args A) × AllByRecursion Good (listed xs) × (amount xs ≡ count_in n) × (make (name_in n) xs ≡ b) × (ws ≡ flat_map words (listed xs) ++ us)
+  named_only make n ws b us h =
+      cond_ok (ltb 3 (count_in n)) _ _ b us h
+      (λ t q. no_ok _ _ b us q)
+      (λ t q. then_ok (read_args read (count_in n) ws) _ b us q (λ ys vs i j.
+      let g = args_only R (count_in n) ws ys vs (grind (arith, nat_tests)) i in
+      let e : make (name_in n) ys ≡ b = cc in
+      let f : vs ≡ us = cc in
+      (ys, g.0, g.1, e, g.2 ∙ ap (λ (v : List ℕ). flat_map words (listed ys) ++ v) f)))
 
 name_lt : (n : ℕ) → name_in n < 2 ^ 8
 name_lt n = omega arith

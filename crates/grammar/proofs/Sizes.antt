@@ -9,7 +9,9 @@ use Rattle.grammar.specs.declared.part.Term.TheVariants.{One, Sum, Diff}
 use Rattle.grammar.specs.declared.part.Atom.{Atom}
 use Rattle.grammar.specs.Atoms.{Head, BodyFact}
 use Rattle.grammar.specs.declared.part.Guard.{Guard}
-use Rattle.args.specs.Listed.{listed}
+use Rattle.args.specs.declared.Args.{Args}
+use Rattle.args.specs.declared.Args.TheVariants.{Zero, One as OneArg, Two, Three}
+use Rattle.args.specs.Listed.{listed, amount}
 use Rattle.grammar.specs.Parts.{Parts}
 use Rattle.grammar.specs.Writing.{operand_words, term_words, atom_words, head_words, guard_words, body_words, heads_words, tail_words, rule_words}
 use Rattle.grammar.specs.Sizes.{operand_size, term_size, atom_size, head_size, guard_size, body_size, heads_size, rule_size}
@@ -34,6 +36,16 @@ atom_length words size h k a = omega (arith, length_joined words size h (listed 
 
 pub head_length : (k : ℕ) (h : Head) → length (head_words k h) ≡ head_size h
 head_length = atom_length operand_words operand_size operand_length
+
+amount_sum : (xs : Args Operand) → sum_by operand_size (listed xs) ≡ amount xs
+amount_sum Zero = refl
+amount_sum (OneArg a) = refl
+amount_sum (Two a b) = refl
+amount_sum (Three a b c) = refl
+
+-- a head is its first word and a word for each operand
+pub head_counted : (h : Head) → head_size h ≡ 1 + amount h.args
+head_counted h = omega (arith, amount_sum h.args)
 
 pub guard_length : (g : Guard) → length (guard_words g) ≡ guard_size g
 guard_length g = simp length-append (omega (arith, term_length g.left, term_length g.right))

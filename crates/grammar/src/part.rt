@@ -3,7 +3,8 @@ ghost use Rattle.grammar.specs.declared.part.Operand.TheVariants.{Const};
 ghost use Rattle.grammar.specs.declared.part.Term.TheVariants.{One};
 ghost use Rattle.grammar.specs.Tests.{NamesTest};
 
-use args::Args;
+pub use args::Args;
+use std::fmt;
 
 // A variable (0 to 7) or a constant.
 #[derive(Clone, Copy, PartialEq, Debug)]
@@ -67,7 +68,7 @@ impl TryFrom<u8> for Test {
 }
 
 // A name and arguments.
-#[derive(Clone, Copy, PartialEq, Default, Debug)]
+#[derive(Clone, Copy, PartialEq, Default)]
 pub struct Atom<A> {
     pub name: u8,
     pub args: Args<A>,
@@ -78,6 +79,25 @@ pub type Head = Atom<Operand>;
 
 // A fact to be written.
 pub type BodyFact = Atom<Term>;
+
+// Shown as what it is, a head or a body fact.
+impl fmt::Debug for Head {
+    fn fmt<W: fmt::Write>(&self, f: &mut fmt::Formatter<W>) -> fmt::Result {
+        f.debug_struct("Head")
+            .field("name", &self.name)
+            .field("args", &self.args)
+            .finish()
+    }
+}
+
+impl fmt::Debug for BodyFact {
+    fn fmt<W: fmt::Write>(&self, f: &mut fmt::Formatter<W>) -> fmt::Result {
+        f.debug_struct("BodyFact")
+            .field("name", &self.name)
+            .field("args", &self.args)
+            .finish()
+    }
+}
 
 #[derive(Clone, Copy, PartialEq, Default, Debug)]
 pub struct Guard {

@@ -1,10 +1,18 @@
 -- The front of a list: its last one, its first one, and one more.
-use Rattle.std.proofs.Common.{◌≡◌, ℕ, zero, suc, ◌+◌, ◌-◌, ◌<◌, ◌≤◌, min, Bool, true, false, List, [], ◌∷◌, ◌++◌, map, length, get_or, take, drop, set, ℤ, Some, sym, refl, subst, append-nil, arith, length-append}
+use Rattle.std.proofs.Common.{◌≡◌, ℕ, zero, suc, ◌+◌, ◌-◌, ◌<◌, ◌≤◌, min, Bool, true, false, List, [], ◌∷◌, ◌++◌, map, length, get_or, take, drop, set, ℤ, Some, sym, refl, ap, subst, append-nil, arith, length-append}
 use Rattle.std.proofs.lemmas.List.{take_min, take_at, drop_all, take-append-le, take_more_set, map_push, map_more}
 use Rattle.facts.specs.declared.fact.Fact.{Fact}
 use Rattle.facts.specs.Lists.{Nth}
 use Rattle.facts.specs.Meanings.{Meaning, meaning}
+use Rattle.facts.specs.Reads.{cut}
 use Rattle.lists.specs.Waiting.{Gives, GivesEnd}
+
+-- a fact of at most three arguments is not changed by a cut
+pub cut_short : {V : Type 0} (f : Fact V) → f.count ≤ 3 → cut f ≡ f
+cut_short {V} f h =
+    let e : min 3 f.count ≡ f.count = omega arith in
+    let with-count : ℕ → Fact V = λ n. record { name = f.name; count = n; args = f.args } in
+    ap with-count e
 
 module _ {X Y : Type 0} (f : X → Y) (n k : ℕ) where
   -- one more at the end

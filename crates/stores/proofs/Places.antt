@@ -1,5 +1,5 @@
 -- What stands at a place, from the cells of a memory.
-use Rattle.std.proofs.Common.{◌≡◌, ℕ, zero, suc, ◌+◌, ◌-◌, ◌<◌, ◌≤◌, min, true, false, List, [], ◌∷◌, ◌++◌, map, length, get_or, take, drop, set, ℤ, Some, None, Option, is_some, IfSome, MatchOption, Bor, nat_lt, sym, refl, ap, ◌∙◌, subst, inl, inr, ⊎_elim, arith, length-take, length-drop, length-append}
+use Rattle.std.proofs.Common.{◌≡◌, ℕ, zero, suc, ◌+◌, ◌-◌, ◌<◌, ◌≤◌, min, true, false, ◌⊎◌, List, [], ◌∷◌, ◌++◌, map, length, get_or, take, drop, set, ℤ, Some, None, Option, is_some, IfSome, MatchOption, Bor, nat_lt, sym, refl, ap, ◌∙◌, subst, inl, inr, ⊎_elim, arith, length-take, length-drop, length-append}
 use lib.ListN.{length-map}
 use lib.Seq.{take-set-lt}
 use borrow.Author.Tests.{ltb-true, ltb-false}
@@ -257,3 +257,13 @@ module _ {C F : Type 0} (place : C → Place F) (cells front back : List C) (mar
       (λ l. h j x l (nth_in_front (map place front) (map place back) j empty l z))
       (λ l. f (j - length (map place front)) (omega arith) (omega arith) (nth_in_back (map place front) (map place back) j (j - length (map place front)) empty (omega arith) z))
       (cases_lt j (length (map place front))))
+
+-- one more place below is not empty
+pub filled_less : {F : Type 0} (s : List (Place F)) (i to : ℕ) → Filled s i to → (Nth s (i - 1) empty → ⊥) → Filled s (i - 1) to
+filled_less {F} s i to f h k a b e =
+    ⊎_elim (λ l. f k l b e)
+    (λ n. let same : k ≡ i - 1 = omega arith in let P : ℕ → Type 0 = λ j. Nth s j empty in h (subst P same e))
+    (cases_le i k)
+  where
+    cases_le : (i k : ℕ) → (i ≤ k) ⊎ (k < i)
+    cases_le i k = ⊎_elim inr inl (cases_lt k i)

@@ -1,7 +1,7 @@
 -- The rules of a loaded table, as they are written.
-use Rattle.std.proofs.Common.{◌≡◌, ℕ, ◌+◌, ◌<◌, List, [], ◌∷◌, ◌++◌, map, length, drop, set, sym, ap, ◌∙◌, subst, arith}
+use Rattle.std.proofs.Common.{◌≡◌, ℕ, ◌+◌, ◌<◌, ◌≤◌, List, [], ◌∷◌, ◌++◌, map, length, drop, set, sym, ap, ◌∙◌, subst, arith}
 use Rattle.std.specs.List.{flat_map, AllByRecursion}
-use Rattle.std.proofs.lemmas.List.{length_push}
+use Rattle.std.proofs.lemmas.List.{length_push, length-map}
 use Rattle.words.specs.Words.{word}
 use Rattle.grammar.specs.declared.rule.Rule.{Rule}
 use Rattle.grammar.specs.Parts.{Parts, parts}
@@ -18,6 +18,9 @@ all_unmap P f (x ∷ xs) a = (a.0, all_unmap P f xs a.1)
 module _ (ys : List Rule) (rs : List Parts) (e : map parts ys ≡ rs) where
   pub each_formed : Valid rs → AllByRecursion FormedRuleOf ys
   each_formed d = all_unmap (FormedRule standard) parts ys (subst (AllByRecursion (FormedRule standard)) (sym e) d.formed.each)
+
+  pub few_rules : Valid rs → length ys ≤ 32
+  few_rules d = let l = sym (length-map ys parts) ∙ ap length e in omega (arith, l, d.formed.few)
 
   same_words : flat_map words_of ys ≡ flat_map rule_words rs
   same_words = sym (joined_map rule_words parts ys) ∙ ap (flat_map rule_words) e

@@ -15,8 +15,15 @@ use Rattle.writer.proofs.Places.{Puts, puts_one, puts_more, room_on, placed_more
 next_item : {X : Type 0} (xs : List X) (i : ℕ) (x : X) → i < length xs → x ≡ get_or xs i x → drop i xs ≡ x ∷ drop (i + 1) xs
 next_item xs i x h e = drop_more xs i x h ∙ ap (λ y. y ∷ drop (i + 1) xs) (sym e)
 
-pub all_here : {X : Type 0} (P : X → Type 0) (xs : List X) (i : ℕ) (x : X) → i < length xs → x ≡ get_or xs i x → AllByRecursion P xs → P x
-all_here P xs i x h e a = (subst (AllByRecursion P) (next_item xs i x h e) (All-drop P i xs a)).0
+module _ {X : Type 0} (P : X → Type 0) (xs : List X) (i : ℕ) (x : X) (h : i < length xs) (e : x ≡ get_or xs i x) where
+  pub all_here : AllByRecursion P (drop i xs) → P x
+  all_here a = (subst (AllByRecursion P) (next_item xs i x h e) a).0
+
+  pub all_next : AllByRecursion P (drop i xs) → AllByRecursion P (drop (i + 1) xs)
+  all_next a = (subst (AllByRecursion P) (next_item xs i x h e) a).1
+
+  pub all_at : AllByRecursion P xs → P x
+  all_at a = all_here (All-drop P i xs a)
 
 module _ {X : Type 0} (f : X → List ℕ) (xs : List X) (i : ℕ) where
   -- the words that are left, put behind those so far, make all
@@ -139,3 +146,12 @@ module _ {r : Rule} {w : ℕ} {ks ts : List Head} {gs : List Guard} {bs : List B
 pub joined_map : {X Y : Type 0} (f : Y → List ℕ) (k : X → Y) (xs : List X) → flat_map f (map k xs) ≡ flat_map (λ x. f (k x)) xs
 joined_map f k [] = refl
 joined_map f k (x ∷ xs) = ap (λ (v : List ℕ). f (k x) ++ v) (joined_map f k xs)
+
+-- the words of a rule, part after part: as many as its parts have
+pub rule_size_lem : (w : ℕ) (ks ts gs bs : List ℕ) (a b c d : ℕ) → a ≡ length ks → b ≡ length ts → c ≡ length gs → d ≡ length bs →
+    1 + a + b + c + d ≡ length (w ∷ ((ks ++ ts) ++ (gs ++ bs)))
+rule_size_lem w ks ts gs bs a b c d e f g h =
+    let i = length-append (ks ++ ts) (gs ++ bs) in
+    let j = length-append ks ts in
+    let k = length-append gs bs in
+    omega arith

@@ -3,13 +3,13 @@ use mathlib.Core.Logic.{∥∥₁_elim}
 use Rattle.std.specs.List.{flat_map}
 use Rattle.words.specs.Words.{tag}
 use Rattle.writer.proofs.Places.{Puts}
-use Rattle.writer.proofs.Rows.{all_here, puts_next}
+use Rattle.writer.proofs.Rows.{all_at, puts_next}
 use Rattle.writer.proofs.whole.put_parts.Goals as goal
 
 pub unreachable-requires : goal.unreachable-requires
 unreachable-requires g c =
     ∥∥₁_elim c.requires.formed (λ x. absurd x)
-    (λ a. c.in_default.ensures (all_here g.P.Encode.formed c.args.parts.now c.loop-part.part-index c.part-item.result c.loop-part-test.true c.part-item.is a))
+    (λ a. c.in_default.ensures (all_at g.P.Encode.formed c.args.parts.now c.loop-part.part-index c.part-item.result c.loop-part-test.true c.part-item.is a))
 
 pub loop-part-preserved : goal.loop-part-preserved
 loop-part-preserved g c =
