@@ -10,6 +10,7 @@ use Rattle.std.proofs.lemmas.Bool.{and_parts, eqb-true, false≢true, cases_Bool
 use Rattle.facts.specs.Meanings.{ReadFact, Meaning, read_meaning}
 use Rattle.grammar.specs.declared.part.Operand.{Operand}
 use Rattle.grammar.specs.Atoms.{Head}
+use Rattle.facts.proofs.Same.{listed as three}
 use Rattle.args.specs.declared.Args.{Args}
 use Rattle.args.specs.declared.Args.TheVariants.{Zero, One, Two, Three}
 use Rattle.args.specs.Listed.{listed, amount}
@@ -17,10 +18,6 @@ use Rattle.matching.specs.Terms.{equal, operand_value}
 use Rattle.matching.specs.Heads.{fits_head, all_fit, Met, met, met_args, bind_one, bind_all, unbound, bound, agree, fits_at}
 
 -- ---- one head and one fact
-
--- the three numbers of a read fact, spare ones too
-abbrev pub three : ReadFact → List ℤ
-three f = f.args.0 ∷ (f.args.1 ∷ (f.args.2 ∷ []))
 
 -- as many operands as a fact has arguments do not meet the spare ones
 met_first : (os : Args Operand) (a b c : ℤ) (n : ℕ) → amount os ≡ n → met_args (listed os) (take n (a ∷ (b ∷ (c ∷ [])))) ≡ met_args (listed os) (a ∷ (b ∷ (c ∷ [])))
